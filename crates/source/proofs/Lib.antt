@@ -1,0 +1,4 @@
+pub mod Blocks
+pub mod Cards
+pub mod Firsts
+pub mod Told
