@@ -1,0 +1,13 @@
+pub mod Digits
+pub mod Due
+pub mod Encoded
+pub mod Examples
+pub mod Forms
+pub mod Integers
+pub mod Nextstep
+pub mod Notation
+pub mod Numbers
+pub mod Ranges
+pub mod Samples
+pub mod Utf16
+pub mod Utf8
