@@ -1,0 +1,5 @@
+pub mod Occs
+pub mod Links
+pub mod Tallies
+pub mod Downs
+pub mod Giving
