@@ -1,4 +1,4 @@
--- What an answer tells of the bytes that were left. Assumes nothing.
+-- What an answer tells of the bytes that were left.
 use mathlib.Core.Path.{_≡_, refl}
 use mathlib.Core.List.{List, [], _∷_}
 use Prim.Native.Nat.{ℕ}

@@ -37,6 +37,14 @@ goes-more due left bs i h e = at-byte due bs i (Some left) h e
 pub goes-not : (due : List Range) (bs : List ℕ) (i : ℕ) → i < length bs → None ≡ step due (getD bs i 0) → false ≡ goes-on due (drop i bs)
 goes-not due bs i h e = at-byte due bs i None h e
 
+-- with nothing due, an ASCII byte leaves nothing due
+whole-ascii : (n low high b : ℕ) → n ≡ 0 → b ≤ 0x7F → Some (due-ranges n low high) ≡ step (due-ranges n low high) b
+whole-ascii zero low high b z h = rw (le-leb 0 b (omega arith), le-leb b 0x7F h)
+whole-ascii (suc n) low high b z h = absurd (omega arith)
+
+pub goes-ascii : (n low high : ℕ) (bs : List ℕ) (i : ℕ) → n ≡ 0 → i < length bs → getD bs i 0 ≤ 0x7F → goes-on (due-ranges n low high) (drop (i + 1) bs) ≡ goes-on (due-ranges n low high) (drop i bs)
+goes-ascii n low high bs i z h l = goes-more (due-ranges n low high) (due-ranges n low high) bs i h (whole-ascii n low high (getD bs i 0) z l)
+
 -- and at its end
 whole-none : (n low high : ℕ) → eqb n 0 ≡ whole (due-ranges n low high)
 whole-none zero low high = refl

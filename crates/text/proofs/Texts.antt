@@ -8,6 +8,7 @@ use native.Mathlib.Omega.{arith}
 use lib.ListN.{length}
 use Rattle.std.proofs.shelf.Lists.{append-nil}
 use Rattle.std.proofs.shelf.Tests.{cases-lt}
+use Rattle.std.specs.shelf.Lists.{All}
 use Rattle.text.proofs.Encodings.{encode-1, encode-2, encode-3, encode-4, char-encode, scalar-low}
 use Rattle.text.proofs.Grammar.{append-from, syntax-from, test-from}
 use Rattle.text.specs.Utf8.{Utf8, empty, then, utf8, scalar, encode}
@@ -35,3 +36,14 @@ length-encode c = by (cases-lt c 0x80) (cases-lt c 0x800) (cases-lt c 0x10000)
     by (inr l) (inl h) _ = rw (encode-2 c l (omega arith)) (omega arith)
     by (inr _) (inr l) (inl h) = rw (encode-3 c l (omega arith)) (omega arith)
     by (inr _) (inr _) (inr l) = rw (encode-4 c l) (omega arith)
+
+-- a text and one character more, or one ASCII byte more
+pub utf8-push : (a : List ℕ) (c : ℕ) → utf8 a ≡ true → scalar c ≡ true → utf8 (a ++ encode c) ≡ true
+utf8-push a c u s = utf8-append a (encode c) u ∙ utf8-encode c s
+
+pub utf8-push-ascii : (a : List ℕ) (b : ℕ) → utf8 a ≡ true → b ≤ 0x7F → utf8 (a ++ b ∷ []) ≡ true
+utf8-push-ascii a b u h = utf8-append a (b ∷ []) u ∙ (utf8-ascii b [] h ∙ utf8-nil)
+
+pub utf8-from-ascii : (bs : List ℕ) → All (λ b. b ≤ 0x7F) bs → utf8 bs ≡ true
+utf8-from-ascii [] h = utf8-nil
+utf8-from-ascii (b ∷ bs) h = utf8-ascii b bs (h .0) ∙ utf8-from-ascii bs (h .1)

@@ -10,15 +10,15 @@ use Rattle.std.proofs.shelf.Lists.{take-take, take-at, drop-at, drop-drop, appe
 use Rattle.text.proofs.Texts.{length-encode}
 use Rattle.text.specs.Utf8.{scalar, encode, Encoded-at}
 
-pub written : (c start n : ℕ) (out bytes new : List ℕ) → scalar c ≡ true → bytes ≡ take 4 (encode c ++ 0 ∷ 0 ∷ 0 ∷ []) → n ≡ length (encode c) → start + n ≤ length out → new ≡ take (n - 0) bytes
-    → Encoded-at c start (start + n) out (putMid start ((start + n) - start) out new)
-written c start n out bytes new s e l r p =
+pub written : (c start n end : ℕ) (out bytes new : List ℕ) → scalar c ≡ true → bytes ≡ take 4 (encode c ++ 0 ∷ 0 ∷ 0 ∷ []) → n ≡ length (encode c) → end ≡ start + n → end ≤ length out → new ≡ take (n - 0) bytes
+    → Encoded-at c start end out (putMid start ((start + n) - start) out new)
+written c start n end out bytes new s e l d r p =
     let short : n ≤ 4 = omega (arith, length-encode c) in
     let k : (start + n) - start ≡ n = omega arith in
     let z : n - 0 ≡ n = omega arith in
     let front : new ≡ encode c = p ∙ ap (λ (m : ℕ). take m bytes) z ∙ ap (take n) e ∙ take-take n 4 (encode c ++ 0 ∷ 0 ∷ 0 ∷ []) short ∙ take-at (encode c) (0 ∷ 0 ∷ 0 ∷ []) n (sym l) in
-    let back : drop ((start + n) - start) (drop start out) ≡ drop (start + n) out = ap (λ (m : ℕ). drop m (drop start out)) k ∙ drop-drop n start out in
-    record { valid = s; ends = ap (λ (m : ℕ). start + m) l; room = r; bytes = λ i. take start out ++ (front i ++ back i) }
+    let back : drop ((start + n) - start) (drop start out) ≡ drop end out = ap (λ (m : ℕ). drop m (drop start out)) k ∙ drop-drop n start out ∙ ap (λ (m : ℕ). drop m out) (sym d) in
+    record { valid = s; ends = d ∙ ap (λ (m : ℕ). start + m) l; room = r; bytes = λ i. take start out ++ (front i ++ back i) }
 
 -- what the caller has then: the text is longer by the encoding, and what follows is as it was
 module _ {c start end : ℕ} {before after : List ℕ} (w : Encoded-at c start end before after) where

@@ -15,6 +15,7 @@ pub data Range : Type 0 where
   _to_ : ℕ → ℕ → Range
 
 infix 70 _to_
+-- whether the byte is in the range
 abbrev pub inside : Range → ℕ → Bool
 inside (low to high) b = leb low b && leb b high
 

@@ -60,6 +60,10 @@ pub fn is_utf8(bytes: &[u8]) -> bool
 {
     let mut due = WHOLE;
     for byte in bytes {
+        // A character of one byte leaves nothing due: most bytes need no more than this test.
+        if due.count == 0 && *byte < 0x80 {
+            continue;
+        }
         let Some(next) = due_after(due, *byte) else {
             return false;
         };

@@ -15,4 +15,4 @@ pub returns : need.returns
 returns c =
     let e = c .in-Continue-encoded .encoded in
     let f = c .in-Continue-encoded .ensures tt in
-    written (c .args .code) (c .args .start) (e .len) (c .args .out .now) (e .bytes) (c .copy-from-slice .last .self) (f .valid) (f .bytes) (f .len) (omega arith) (c .copy-from-slice .ensures .after)
+    written (c .args .code) (c .args .start) (e .len) _ (c .args .out .now) (e .bytes) (c .copy-from-slice .last .self) (f .valid) (f .bytes) (f .len) (omega arith) (omega arith) (c .copy-from-slice .ensures .after)

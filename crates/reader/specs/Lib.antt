@@ -1,0 +1,9 @@
+pub mod Comments
+pub mod Kinds
+pub mod Meanings
+pub mod Readings
+pub mod Samples
+pub mod States
+pub mod Steps
+pub mod Texts
+pub mod Tokens

@@ -1,0 +1,10 @@
+pub mod Drains
+pub mod Errors
+pub mod Events
+pub mod Kinds
+pub mod Labels
+pub mod Lists
+pub mod Nexts
+pub mod Scratch
+pub mod Sides
+pub mod Streams
