@@ -314,12 +314,12 @@ quoted-on q bs p (x ∷ xs) e =
     (same-behind (quoted-within (length (x ∷ xs)) q) (quoted-from q) e (length xs) (λ more p′ ys i. quoted-enough (length (x ∷ xs)) (suc (length ys)) q more p′ ys e (omega arith) (omega arith)) q bs)
 
 -- an item but the end leaves less than n
-abbrev Less-by : ℕ → List ℕ → Item → Type 0
+abbrev pub Less-by : ℕ → List ℕ → Item → Type 0
 Less-by n ys (token ev) = length ys < n
 Less-by n ys passed-over = length ys < n
 Less-by n ys the-end = Unit {0}
 
-abbrev Less : ℕ → Done Item → Type 0
+abbrev pub Less : ℕ → Done Item → Type 0
 Less n d = Less-by n (d .left) (d .value)
 
 less-item : (i : Item) (ys : List ℕ) (n : ℕ) → length ys < n → Less-by n ys i
@@ -336,7 +336,7 @@ less-stepped (Ok None) p y ys e = tt
 less-stepped (Ok (Some x)) p y ys e = less-begun (begun x (p + 1) ys e) (length ys) (leaves (begun x (p + 1) ys e) (p + 1) (length ys) (length ys) (omega arith) (adv-begun x (p + 1) ys e))
 less-stepped (Err f) p y ys e = tt
 
-less-from : (p : ℕ) (xs : List ℕ) (e : Ending) → Where-ok (Less (length xs)) (item p xs e)
+pub less-from : (p : ℕ) (xs : List ℕ) (e : Ending) → Where-ok (Less (length xs)) (item p xs e)
 less-from p [] End = tt
 less-from p [] (Fault code) = tt
 less-from p (x ∷ xs) e = less-stepped (step-gives p (x ∷ xs) e) p x xs e

@@ -27,6 +27,9 @@ pub record Underway (u₀ u : Stream) (k : ℕ) (s₀ s : List ℕ) : Type 0 whe
   pub fits : k ≤ 2 ^ 64 - 1
   pub kept : beyond s ≡ beyond s₀
 
+same-drained : (i j : ℕ) (d e : Ending) → i ≡ j → d ≡ e → _≡_ {A = Result Drained Error} (Ok (record { count = i; ending = d })) (Ok (record { count = j; ending = e }))
+same-drained i j d e p q = ap (λ (k : ℕ). Ok (record { count = k; ending = d })) p ∙ ap (λ (x : Ending). Ok (record { count = j; ending = x })) q
+
 at-end : (u v : Stream) (s s′ : List ℕ) (end : Ending) → Gives u s (answer-of end) v s′ → (u ≡ over end) × (v ≡ u) × Cleared 0 s s′
 at-end u v s s′ End g = g
 at-end u v s s′ (Refused e) g = g
@@ -53,7 +56,7 @@ module _ (u₀ u v : Stream) (k : ℕ) (s₀ s s′ : List ℕ) (r : Result (Opt
       record {
         short = λ h. absurd (omega arith);
         drains = λ _. (
-          ap (λ (x : Drained). Ok x) (ap (λ (i : ℕ). record { count = i; ending = end }) all ∙ ap (λ (x : Ending). record { count = min (length (u₀ .events)) (2 ^ 64 - 1); ending = x }) ends),
+          same-drained k (min (length (u₀ .events)) (2 ^ 64 - 1)) end (u₀ .ending) all ends,
           g .1 ∙ (g .0 ∙ ap over ends),
           g .2 ∙ behind-same 0 s s₀ (now .kept),
         );

@@ -12,8 +12,8 @@ use Rattle.stream.specs.Labels.{labelled}
 use Rattle.stream.specs.declared.errors.Error.{Error}
 
 -- what a label and a value write
-pub carried-is : {X : Type 0} (f : X → List ℕ) (label label′ : List ℕ) (o o′ : Option X) → label ≡ label′ → o ≡ o′ → labelled label (λ x. Some (f x)) o ≡ Some (carried label′ f o′)
-carried-is {X = X} f label label′ o o′ hl ho = ap (λ (l : List ℕ). labelled l (λ x. Some (f x)) o) hl ∙ (ap (labelled label′ (λ x. Some (f x))) ho ∙ same o′)
+pub carried-is : {X : Type 0} (f : X → List ℕ) (label label′ : List ℕ) (o m o′ : Option X) → label ≡ label′ → o ≡ m → m ≡ o′ → labelled label (λ x. Some (f x)) o ≡ Some (carried label′ f o′)
+carried-is {X = X} f label label′ o m o′ hl ho hm = ap (λ (l : List ℕ). labelled l (λ x. Some (f x)) o) hl ∙ (ap (labelled label′ (λ x. Some (f x))) (ho ∙ hm) ∙ same o′)
   where
     same : (p : Option X) → labelled label′ (λ x. Some (f x)) p ≡ Some (carried label′ f p)
     same None = refl

@@ -24,12 +24,15 @@ drop-to k n s h = go (cases-lt (length s) k)
     go (inl l) = drop-all (min (length s) k) s (omega arith) ∙ sym (drop-all (max n k) s (omega arith))
     go (inr l) = ap (λ (i : ℕ). drop i s) (omega arith)
 
+joined : (a b b′ c c′ : List ℕ) → b ≡ b′ → c ≡ c′ → a ++ (b ++ c) ≡ a ++ (b′ ++ c′)
+joined a b b′ c c′ p q = ap (λ (xs : List ℕ). a ++ (xs ++ c)) p ∙ ap (λ (xs : List ℕ). a ++ (b′ ++ xs)) q
+
 part-to : (k n e : ℕ) (s ys : List ℕ) → e ≡ min (length s) k → n < e → ys ≡ replicate (e - n) 0 → putMid n (e - n) s ys ≡ zeroed-to k n s
 part-to k n e s ys is less zeros =
     let whole : n + (e - n) ≡ e = omega arith in
-    let past : drop (e - n) (drop n s) ≡ drop (max n k) s = drop-drop (e - n) n s ∙ (ap (λ (i : ℕ). drop i s) (whole ∙ is) ∙ drop-to k n s (omega arith)) in
-    ap (λ (xs : List ℕ). take n s ++ (xs ++ drop (e - n) (drop n s))) (zeros ∙ ap (λ (i : ℕ). replicate (i - n) 0) is)
-    ∙ ap (λ (xs : List ℕ). take n s ++ (replicate (min (length s) k - n) 0 ++ xs)) past
+    joined (take n s) ys (replicate (min (length s) k - n) 0) (drop (e - n) (drop n s)) (drop (max n k) s)
+    (zeros ∙ ap (λ (i : ℕ). replicate (i - n) 0) is)
+    (drop-drop (e - n) n s ∙ (ap (λ (i : ℕ). drop i s) (whole ∙ is) ∙ drop-to k n s (omega arith)))
 
 none-to : (k n : ℕ) (s : List ℕ) → min (length s) k ≤ n → s ≡ zeroed-to k n s
 none-to k n s h =
