@@ -8,6 +8,9 @@ use std::alloc::Global;
 pub enum Command<'a> {
     Help,
     Bytes(Input<'a>),
+    Events(Input<'a>),
+    // The name of the file.
+    Batch(&'a str),
 }
 
 // Where a list comes from.
@@ -37,6 +40,10 @@ fn no_option(heap: Global, task: &str, word: &str) -> Result<Trouble, AllocError
 
 fn second_file(heap: Global, task: &str, word: &str) -> Result<Trouble, AllocError> {
     Ok(Trouble::Words(format!(heap, "{task} takes one file, and {word} is a second one")?))
+}
+
+fn no_file(heap: Global, task: &str) -> Result<Trouble, AllocError> {
+    Ok(Trouble::Words(format!(heap, "{task} takes a file, and none is given")?))
 }
 
 fn no_count(heap: Global) -> Result<Trouble, AllocError> {
@@ -83,7 +90,21 @@ fn take_input<'a>(heap: Global, task: &str, words: &'a [String]) -> Result<Input
             buffers: between,
             file: file.as_str(),
         }),
-        None => Err(Trouble::Words(format!(heap, "{task} takes a file, and none is given")?)),
+        None => Err(no_file(heap, task)?),
+    }
+}
+
+fn take_file<'a>(heap: Global, task: &str, words: &'a [String]) -> Result<&'a str, Trouble> {
+    let [given, rest @ ..] = words else {
+        return Err(no_file(heap, task)?);
+    };
+    let word = given.as_str();
+    if is_option(word) {
+        return Err(no_option(heap, task, word)?);
+    }
+    match rest {
+        [] => Ok(word),
+        [second, ..] => Err(second_file(heap, task, second.as_str())?),
     }
 }
 
@@ -96,6 +117,8 @@ pub fn parse<'a>(heap: Global, words: &'a [String]) -> Result<Command<'a>, Troub
     match words[0].as_str() {
         "--help" => Ok(Command::Help),
         "bytes" => Ok(Command::Bytes(take_input(heap, "bytes", rest)?)),
+        "events" => Ok(Command::Events(take_input(heap, "events", rest)?)),
+        "batch" => Ok(Command::Batch(take_file(heap, "batch", rest)?)),
         task => Err(Trouble::Words(format!(heap, "there is no task {task}; see attrs --help")?)),
     }
 }

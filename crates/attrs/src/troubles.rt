@@ -11,6 +11,8 @@ pub enum Trouble {
     Words(String),
     // A file cannot be read.
     Unread(String, io::Error),
+    // A line of a batch file is malformed.
+    Line(String, usize),
     Output(io::Error),
     Memory,
 }
@@ -20,6 +22,11 @@ impl Trouble {
         let name = String::from_str(heap, file)?;
         Ok(Trouble::Unread(name, error))
     }
+
+    pub fn line(heap: Global, file: &str, number: usize) -> Result<Trouble, AllocError> {
+        let name = String::from_str(heap, file)?;
+        Ok(Trouble::Line(name, number))
+    }
 }
 
 pub impl fmt::Display for Trouble as TroubleDisplay {
@@ -27,6 +34,10 @@ pub impl fmt::Display for Trouble as TroubleDisplay {
         match self {
             Trouble::Words(sentence) => write!(f, "{sentence}"),
             Trouble::Unread(file, error) => write!(f, "cannot read {file}: {error}"),
+            Trouble::Line(file, number) => write!(
+                f,
+                "{file}, line {number}: expected a list in hexadecimal, two digits a byte, or - for no bytes"
+            ),
             Trouble::Output(error) => write!(f, "cannot write to standard output: {error}"),
             Trouble::Memory => write!(f, "out of memory"),
         }

@@ -1,17 +1,16 @@
 -- What the format says of bytes, the reading's runs make of them.
-use mathlib.Core.Path.{_≡_, refl, sym, ap, ap₂, subst, _∙_}
-use mathlib.Core.Bool.{Bool, true, false, cond, _||_, _&&_}
+use mathlib.Core.Path.{_≡_, refl, sym, ap, subst, _∙_}
+use mathlib.Core.Bool.{false, cond}
 use mathlib.Core.List.{List, [], _∷_, _++_}
-use mathlib.Core.Logic.{_≢_, _⊎_, inl, inr}
-use Prim.Native.Nat.{ℕ, zero, suc, _+_, _≤_, _<_}
+use mathlib.Core.Logic.{_≢_, inl, inr}
+use Prim.Native.Nat.{ℕ, _+_, _≤_, _<_}
 use native.Mathlib.Omega.{arith}
 use lib.Chars.{codes}
 use lib.Dec.{eqb, leb}
 use lib.ListN.{length}
 use Rattle.std.proofs.shelf.Lists.{append-assoc, append-nil, length-append}
-use Rattle.std.proofs.shelf.Tests.{eqb-true, eq-eqb, ne-eqb, le-leb, lt-leb, leb-true, and-parts, and-from, cases-bool, cases-eq}
-use Rattle.std.specs.declared.option.Option.{Option}
-use Rattle.std.specs.declared.option.Option.the-variants.{Some, None}
+use Rattle.std.proofs.shelf.Tests.{eqb-true, eq-eqb, ne-eqb, lt-leb, cases-bool}
+use Rattle.std.specs.declared.option.Option.the-variants.{Some}
 use Rattle.std.specs.declared.result.Result.{Result}
 use Rattle.std.specs.declared.result.Result.the-variants.{Ok, Err}
 use Rattle.source.specs.declared.sources.Ending.{Ending}
@@ -21,7 +20,7 @@ use Rattle.stream.specs.declared.errors.Error.the-variants.{TooLong, TextTooLon
 use Rattle.reader.specs.Comments.{line-comment, closes, state-after, in-comment}
 use Rattle.laws.specs.Format.{One-of, Each, Without, plain-ends, Ends-plain}
 use Rattle.reader.specs.Steps.{Done, Run, pure, onward, _>>=_, limit, step-gives, stepped, step, then}
-use Rattle.reader.specs.Texts.{text-bytes, ends-plain, plain, present, quoted-byte}
+use Rattle.reader.specs.Texts.{text-bytes, plain, present, quoted-byte}
 use Rattle.reader.specs.declared.states.Comment.{Comment}
 use Rattle.reader.specs.declared.states.Comment.the-variants.{Plain, Star}
 use Rattle.laws.proofs.Sets.{one-of-since, none-of, ends-plain-is}

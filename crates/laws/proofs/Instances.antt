@@ -1,8 +1,8 @@
 -- Sample lists, put together from the format's rules.
 use mathlib.Core.Path.{_≡_, refl, sym, ap, _∙_}
-use mathlib.Core.Bool.{Bool, true, false}
-use mathlib.Core.List.{List, [], _∷_, _++_}
-use mathlib.Core.Logic.{_⊎_, inl, inr}
+use mathlib.Core.Bool.{true, false}
+use mathlib.Core.List.{List, [], _∷_}
+use mathlib.Core.Logic.{inl, inr}
 use Prim.Native.Nat.{ℕ, _≤_}
 use native.Mathlib.Omega.{arith}
 use lib.Chars.{codes}
@@ -20,7 +20,7 @@ use Rattle.source.specs.declared.sources.Ending.the-variants.{End}
 use Rattle.stream.specs.Streams.{Ev, Stream, stream}
 use Rattle.stream.specs.declared.errors.Error.{Error}
 use Rattle.stream.specs.declared.sources.Ending.{Ending as Stream-ending}
-use Rattle.laws.specs.Format.{One-of, no-plain-begins, plain-ends, separators, Text, Named, Escape, Quoted, Plain, Plain-event, Number, Ends-plain, Token, Line-comment, Block-comment, Skipped, Items, Nothing, Between, Lists}
+use Rattle.laws.specs.Format.{no-plain-begins, plain-ends, separators, Text, Named, Escape, Quoted, Plain-event, Ends-plain, Token, Skipped, Items, Between, Lists}
 use Rattle.laws.specs.Laws.{Format-samples}
 use Rattle.reader.specs.Readings.{reading-within, reading}
 use Rattle.laws.proofs.Read.{no-number}

@@ -1,12 +1,12 @@
 -- Completeness for items and whole lists: bytes that the format lists are read as their events, whatever follows them.
-use mathlib.Core.Path.{_≡_, refl, sym, ap, ap₂, subst, _∙_}
-use mathlib.Core.Bool.{Bool, true, false, cond, _||_, _&&_}
+use mathlib.Core.Path.{_≡_, refl, sym, ap, subst, _∙_}
+use mathlib.Core.Bool.{cond, _||_}
 use mathlib.Core.List.{List, [], _∷_, _++_}
 use mathlib.Core.Logic.{_≢_, _⊎_, inl, inr}
-use Prim.Native.Nat.{ℕ, zero, suc, _+_, _≤_, _<_}
+use Prim.Native.Nat.{ℕ, _+_, _≤_, _<_}
 use native.Mathlib.Omega.{arith}
 use lib.Chars.{codes}
-use lib.Dec.{eqb, leb}
+use lib.Dec.{eqb}
 use lib.IntN.{ℤ}
 use lib.ListN.{length}
 use Rattle.std.proofs.shelf.Lists.{append-assoc, append-nil, length-append}
@@ -14,24 +14,22 @@ use Rattle.std.proofs.shelf.Tests.{eq-eqb, ne-eqb, or-from, cases-eq}
 use Rattle.std.specs.Orderings.{Decides}
 use Rattle.std.specs.declared.option.Option.{Option}
 use Rattle.std.specs.declared.option.Option.the-variants.{Some, None}
-use Rattle.std.specs.declared.result.Result.{Result}
-use Rattle.std.specs.declared.result.Result.the-variants.{Ok, Err}
 use Rattle.text.specs.Notation.{Notation}
 use Rattle.text.specs.Numbers.{number}
 use Rattle.text.specs.Utf8.{Utf8, utf8}
 use Rattle.source.specs.Asking.{first}
 use Rattle.source.specs.declared.sources.Ending.{Ending}
-use Rattle.source.specs.declared.sources.Ending.the-variants.{End, Fault}
-use Rattle.stream.specs.Streams.{Ev, Stream, stream, over}
+use Rattle.source.specs.declared.sources.Ending.the-variants.{End}
+use Rattle.stream.specs.Streams.{Ev, stream, over}
 use Rattle.stream.specs.declared.errors.Error.the-variants.{InvalidUtf8AsciiStream}
 use Rattle.stream.specs.declared.sources.Ending.{Ending as Stream-ending}
 use Rattle.reader.specs.Comments.{line-comment, in-comment, block-comment}
 use Rattle.laws.specs.Format.{One-of, Each, separators, plain-ends, no-plain-begins, Text, Quoted, Plain, Plain-event, Number, Ends-plain, Slash-goes-on, Begins-no-comment, Token, Line-comment, Block-comment, Line-feed-first, Skipped, Items, Nothing, Lists}
 use Rattle.laws.specs.Laws.{followed}
-use Rattle.reader.specs.Readings.{before, item-then, reading-within, reading}
-use Rattle.reader.specs.Steps.{Done, Run, pure, refuse, onward, _>>=_, whether, limit, step-gives, stepped, step}
-use Rattle.reader.specs.Texts.{whole-text, plain, integer-or-string, unquoted, quoted-from, quoted}
-use Rattle.reader.specs.Tokens.{Item, token, passed-over, the-end, separator, as-token, as-nothing, behind-slash, potential-comment, begun, begun-if, item}
+use Rattle.reader.specs.Readings.{before, item-then, reading}
+use Rattle.reader.specs.Steps.{Run, pure, refuse, onward, _>>=_, whether, limit, stepped}
+use Rattle.reader.specs.Texts.{whole-text, plain, integer-or-string, unquoted, quoted}
+use Rattle.reader.specs.Tokens.{token, passed-over, separator, as-token, as-nothing, potential-comment, begun, begun-if, item}
 use Rattle.reader.specs.declared.states.Comment.{Comment}
 use Rattle.laws.proofs.Completeness.{done, Sure, sure-append, sure-cons, sure-step, at-position, Ends-line, line-on, comment-on, plain-on}
 use Rattle.laws.proofs.Quotations.{quoted-text-on}
@@ -149,13 +147,13 @@ module _ (decides : (bs : List ℕ) → Decides (utf8 bs) (Utf8 bs)) (notation :
   whole-on : (bs : List ℕ) (p : ℕ) (xs : List ℕ) (e : Ending) → Utf8 bs → whole-text bs p xs e ≡ done bs p xs
   whole-on bs p xs e u = ap (λ b. cond b (pure bs p xs e) (refuse InvalidUtf8AsciiStream p xs e)) (decides bs .1 u)
 
-  no-number : (bs : List ℕ) → ((z : ℤ) → Number bs z → ⊥) → (o : Option ℤ) → number bs ≡ o → integer-or-string bs o ≡ Ev.String bs
-  no-number bs h None w = refl
-  no-number bs h (Some z) w = absurd (h z (notation .writes bs z w))
+  string-on : (bs : List ℕ) → ((z : ℤ) → Number bs z → ⊥) → (o : Option ℤ) → number bs ≡ o → integer-or-string bs o ≡ Ev.String bs
+  string-on bs h None w = refl
+  string-on bs h (Some z) w = absurd (h z (notation .writes bs z w))
 
   event-on : {bs : List ℕ} {ev : Ev} → Plain-event bs ev → integer-or-string bs (number bs) ≡ ev
   event-on {bs} (Plain-event.integer {z} n) = ap (integer-or-string bs) (notation .reads bs z (n .0) (n .1))
-  event-on {bs} (Plain-event.string h) = no-number bs h (number bs) refl
+  event-on {bs} (Plain-event.string h) = string-on bs h (number bs) refl
 
   unquoted-on : (x : ℕ) (others rest : List ℕ) (ev : Ev) → Each (λ y. One-of plain-ends y → ⊥) others → Ends-plain rest → Text (x ∷ others) → Plain-event (x ∷ others) ev
       → (p q : ℕ) (e : Ending) → Sure e rest → q ≡ p + length others → q ≤ limit → unquoted x p (others ++ rest) e ≡ done ev q rest

@@ -1,33 +1,30 @@
 -- Completeness for quoted texts: an escape of the format is read as its character, and a quoted text as its text.
-use mathlib.Core.Path.{_≡_, refl, sym, ap, ap₂, subst, _∙_}
-use mathlib.Core.Bool.{Bool, true, false, cond, _||_, _&&_}
+use mathlib.Core.Path.{_≡_, refl, sym, ap, _∙_}
+use mathlib.Core.Bool.{Bool, true, false, cond, _&&_}
 use mathlib.Core.List.{List, [], _∷_, _++_}
-use mathlib.Core.Logic.{_≢_, _⊎_, inl, inr}
-use Prim.Native.Nat.{ℕ, zero, suc, _+_, _-_, _*_, _≤_, _<_}
+use mathlib.Core.Logic.{_≢_, inl, inr}
+use Prim.Native.Nat.{ℕ, _+_, _-_, _*_, _≤_, _<_}
 use native.Mathlib.Omega.{arith}
 use lib.Chars.{codes}
 use lib.Dec.{eqb, leb, ltb}
 use lib.ListN.{length}
 use Rattle.std.proofs.shelf.Lists.{append-assoc, append-nil, length-append}
-use Rattle.std.proofs.shelf.Tests.{eqb-true, eq-eqb, ne-eqb, le-leb, lt-leb, leb-true, or-left, or-right, and-parts, and-from, cases-bool, cases-eq}
+use Rattle.std.proofs.shelf.Tests.{eq-eqb, ne-eqb, le-leb, or-left, or-right, and-parts, cases-bool}
 use Rattle.std.proofs.shelf.Ways.{tells}
 use Rattle.std.specs.declared.option.Option.{Option}
 use Rattle.std.specs.declared.option.Option.the-variants.{Some, None}
-use Rattle.std.specs.declared.result.Result.{Result}
-use Rattle.std.specs.declared.result.Result.the-variants.{Ok, Err}
 use Rattle.text.specs.Digits.{digit-value, is-digit, all-digits, place-value, numeral}
 use Rattle.text.specs.Nextstep.{nextstep}
 use Rattle.text.specs.Utf16.{surrogate, high-surrogate, low-surrogate, decode}
 use Rattle.text.specs.Utf8.{encode}
 use Rattle.source.specs.declared.sources.Ending.{Ending}
-use Rattle.stream.specs.declared.errors.Error.{Error}
 use Rattle.stream.specs.declared.errors.Error.the-variants.{TextTooLong, InvalidOctalString, InvalidUtf16String, InvalidUtf8AsciiStream}
 use Rattle.laws.specs.Format.{One-of, Named, Code-unit, Escape, Quoted}
 use Rattle.laws.specs.Format.Named.{backslash, double-quote, single-quote, alert, backspace, form-feed, new-line, carriage-return, horizontal-tab, vertical-tab}
-use Rattle.reader.specs.Steps.{Done, Run, pure, refuse, onward, _>>=_, whether, or-refuse, limit, peek}
-use Rattle.reader.specs.Texts.{text-bytes, added, named, octal-escape, utf16-code-unit, letter-u, second-opened, second-code-unit, second-if, utf16-escape, escaped, escape, piece, extended, quoted-from, quoted-byte}
+use Rattle.reader.specs.Steps.{Run, pure, refuse, onward, _>>=_, whether, or-refuse, limit, peek}
+use Rattle.reader.specs.Texts.{text-bytes, added, named, octal-escape, utf16-code-unit, letter-u, second-opened, second-code-unit, second-if, utf16-escape, escaped, escape, extended, quoted-from, quoted-byte}
 use Rattle.laws.proofs.Completeness.{done, Sure, sure-append, sure-byte, bind-on, at-position}
-use Rattle.reader.proofs.Unfolding.{quoted-on, quoted-behind}
+use Rattle.reader.proofs.Unfolding.{none-some, quoted-on, quoted-behind}
 
 named-on : {x character : ℕ} → Named x character → (p : ℕ) (xs : List ℕ) (e : Ending) → escaped x p xs e ≡ done character p xs
 named-on backslash p xs e = refl
@@ -44,10 +41,7 @@ named-on vertical-tab p xs e = refl
 -- what a numeral with a value consists of
 some-cond : (t : Bool) (n v : ℕ) → cond t (Some n) None ≡ Some v → t ≡ true
 some-cond true n v e = refl
-some-cond false n v e = absurd (none e)
-  where
-    none : _≡_ {A = Option ℕ} None (Some v) → ⊥
-    none w = let z : _≡_ {A = ℕ} 0 1 = cc in omega arith
+some-cond false n v e = absurd (none-some v e)
 
 octal-first : (a b c n : ℕ) → numeral 8 (a ∷ b ∷ c ∷ []) ≡ Some n → (leb 48 a && leb a 55) ≡ true
 octal-first a b c n w =
@@ -91,10 +85,7 @@ unit-on ds u unit rest p e s l =
 
 -- a unit alone is no surrogate, and the first of two is one
 lone-unit : (u c : ℕ) → decode u None ≡ Some c → surrogate u ≡ false
-lone-unit u c w = elim (cases-bool (surrogate u)) [ inl t ↦ absurd (none (sym (ap (λ b. cond b None (Some u)) t) ∙ w)) | inr f ↦ f ]
-  where
-    none : _≡_ {A = Option ℕ} None (Some c) → ⊥
-    none v = let z : _≡_ {A = ℕ} 0 1 = cc in omega arith
+lone-unit u c w = elim (cases-bool (surrogate u)) [ inl t ↦ absurd (none-some c (sym (ap (λ b. cond b None (Some u)) t) ∙ w)) | inr f ↦ f ]
 
 first-unit : (u v c : ℕ) → decode u (Some v) ≡ Some c → surrogate u ≡ true
 first-unit u v c w =

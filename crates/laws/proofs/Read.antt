@@ -1,15 +1,15 @@
 -- Soundness for items and whole readings: bytes that are read to the end are a list of their events.
-use mathlib.Core.Path.{_≡_, refl, sym, ap, ap₂, subst, subst₂, _∙_}
-use mathlib.Core.Bool.{Bool, true, false, cond, _||_, _&&_}
+use mathlib.Core.Path.{_≡_, refl, sym, ap, subst, subst₂, _∙_}
+use mathlib.Core.Bool.{true, false, cond, _||_}
 use mathlib.Core.List.{List, [], _∷_, _++_}
 use mathlib.Core.Logic.{_≢_, _⊎_, inl, inr}
 use Prim.Native.Nat.{ℕ, zero, suc, max, _+_, _≤_, _<_}
 use native.Mathlib.Omega.{arith}
 use lib.Chars.{codes}
-use lib.Dec.{eqb, leb}
+use lib.Dec.{eqb}
 use lib.IntN.{ℤ}
 use lib.ListN.{length}
-use Rattle.std.proofs.shelf.Lists.{append-assoc, append-nil, length-append}
+use Rattle.std.proofs.shelf.Lists.{append-assoc, append-nil}
 use Rattle.std.proofs.shelf.Tests.{eqb-true, eqb-false, or-cases, or-parts}
 use Rattle.std.specs.Orderings.{Decides}
 use Rattle.std.specs.declared.option.Option.{Option}
@@ -24,19 +24,19 @@ use Rattle.source.specs.declared.sources.Ending.{Ending}
 use Rattle.source.specs.declared.sources.Ending.the-variants.{End, Fault}
 use Rattle.stream.specs.Streams.{Ev, Stream, stream, over, first}
 use Rattle.stream.specs.declared.errors.Error.{Error}
-use Rattle.stream.specs.declared.errors.Error.the-variants.{InvalidUtf8AsciiStream, IncompleteComment}
+use Rattle.stream.specs.declared.errors.Error.the-variants.{InvalidUtf8AsciiStream}
 use Rattle.stream.specs.declared.sources.Ending.{Ending as Stream-ending}
 use Rattle.reader.specs.Comments.{line-comment, in-comment, block-comment}
-use Rattle.laws.specs.Format.{One-of, Each, separators, plain-ends, no-plain-begins, Text, Quoted, Plain, Plain-event, Number, Ends-plain, Slash-goes-on, Begins-no-comment, Token, Line-comment, Block-comment, Line-feed-first, Skipped, Items, Nothing, Lists, Begins}
+use Rattle.laws.specs.Format.{One-of, Each, separators, plain-ends, no-plain-begins, Text, Quoted, Plain, Plain-event, Number, Ends-plain, Slash-goes-on, Token, Line-comment, Skipped, Items, Lists, Starts-with}
 use Rattle.reader.specs.Readings.{before, item-then, reading}
-use Rattle.reader.specs.Steps.{Done, Run, pure, refuse, onward, _>>=_, whether, limit, step-gives, stepped, step}
+use Rattle.reader.specs.Steps.{Done, Run, pure, refuse, onward, _>>=_, whether, limit, step-gives, stepped}
 use Rattle.reader.specs.Texts.{whole-text, plain, integer-or-string, unquoted, quoted-from, quoted}
-use Rattle.reader.specs.Tokens.{Item, token, passed-over, the-end, separator, as-token, as-nothing, behind-slash, potential-comment, begun, begun-if, item}
+use Rattle.reader.specs.Tokens.{Item, token, passed-over, the-end, separator, as-token, as-nothing, potential-comment, begun, begun-if, item}
 use Rattle.reader.specs.declared.states.Comment.{Comment}
 use Rattle.laws.proofs.Completeness.{Ends-line}
 use Rattle.laws.proofs.Sets.{one-of-true, none-of-false, one-of-either, separator-is}
-use Rattle.laws.proofs.Soundness.{ok-map, ok-onward, ok-cond, Line, line-sound, Block, block-sound, Rest-of-plain, plain-sound, Closed, quoted-from-sound}
-use Rattle.reader.proofs.Unfolding.{Where-ok, Forward, Goes, current-is, Less-by, Less, less-from, adv-item, reading-on}
+use Rattle.laws.proofs.Soundness.{ok-onward, ok-cond, Line, line-sound, Block, block-sound, Rest-of-plain, plain-sound, Closed, quoted-from-sound}
+use Rattle.reader.proofs.Unfolding.{Where-ok, Forward, Goes, current-is, none-some, Less-by, Less, less-from, adv-item, reading-on}
 
 -- what an item is in the format: its bytes, and those that it left
 pub record Token-read (ev : Ev) (xs left : List ℕ) : Type 0 where
@@ -252,9 +252,7 @@ module _ (decides : (bs : List ℕ) → Decides (utf8 bs) (Utf8 bs)) (notation :
   stepped-sound : (p x : ℕ) (xs : List ℕ) (e : Ending) (s : Result (Option ℕ) Error) → step-gives p (x ∷ xs) e ≡ s → Where-ok (As-item (x ∷ xs)) (onward (stepped s p (x ∷ xs) e) begun-if e)
   stepped-sound p x xs e (Ok None) w =
       let v : _≡_ {A = Option ℕ} None (Some x) = current-is p x (answer xs e) None w .0 in
-      let i : _≡_ {A = ℕ} 0 1 = cc in
-      let never : ⊥ = omega arith in
-      absurd never
+      absurd (none-some x v)
   stepped-sound p x xs e (Ok (Some y)) w =
       let v : _≡_ {A = Option ℕ} (Some y) (Some x) = current-is p x (answer xs e) (Some y) w .0 in
       let i : y ≡ x = cc in
@@ -323,29 +321,29 @@ module _ (decides : (bs : List ℕ) → Decides (utf8 bs) (Utf8 bs)) (notation :
 
   -- the events of any reading
   module _ (xs : List ℕ) (later : ℕ → List ℕ → Stream) (nothing : (q : ℕ) → later q [] .events ≡ [])
-      (on : (q : ℕ) (ys : List ℕ) → length ys < length xs → Begins ys (later q ys .events)) where
-    begins-item : (i : Item) (q : ℕ) (ys : List ℕ) → Item-read i xs ys → Less-by (length xs) ys i → Begins xs (before i (later q ys) .events)
-    begins-item (token ev) q ys h less = subst (λ bs. Begins bs (ev ∷ later q ys .events)) (sym (h .splits)) (Items.token (h .token) (on q ys less))
-    begins-item passed-over q ys h less =
+      (on : (q : ℕ) (ys : List ℕ) → length ys < length xs → Starts-with ys (later q ys .events)) where
+    starts-item : (i : Item) (q : ℕ) (ys : List ℕ) → Item-read i xs ys → Less-by (length xs) ys i → Starts-with xs (before i (later q ys) .events)
+    starts-item (token ev) q ys h less = subst (λ bs. Starts-with bs (ev ∷ later q ys .events)) (sym (h .splits)) (Items.token (h .token) (on q ys less))
+    starts-item passed-over q ys h less =
         elim (h .skipped) [
-          | inl k ↦ subst (λ bs. Begins bs (later q ys .events)) (sym (h .splits)) (Items.skip k (on q ys less))
-          | inr c ↦ subst (λ evs. Begins xs evs) (sym (ap (λ zs. later q zs .events) (c .1) ∙ nothing q)) (Items.last tt)
+          | inl k ↦ subst (λ bs. Starts-with bs (later q ys .events)) (sym (h .splits)) (Items.skip k (on q ys less))
+          | inr c ↦ subst (λ evs. Starts-with xs evs) (sym (ap (λ zs. later q zs .events) (c .1) ∙ nothing q)) (Items.last tt)
         ]
-    begins-item the-end q ys h less = Items.last tt
+    starts-item the-end q ys h less = Items.last tt
 
-    begins-result : (r : Result (Done Item) Error) → Where-ok (As-item xs) r → Where-ok (Less (length xs)) r → Begins xs (item-then r later .events)
-    begins-result (Ok d) h less = begins-item (d .value) (d .position) (d .left) h less
-    begins-result (Err f) h less = Items.last tt
+    starts-result : (r : Result (Done Item) Error) → Where-ok (As-item xs) r → Where-ok (Less (length xs)) r → Starts-with xs (item-then r later .events)
+    starts-result (Ok d) h less = starts-item (d .value) (d .position) (d .left) h less
+    starts-result (Err f) h less = Items.last tt
 
   no-events : (e : Ending) (p : ℕ) → reading p [] e .events ≡ []
   no-events End p = ap (λ (s : Stream). s .events) (reading-on p [] End)
   no-events (Fault code) p = ap (λ (s : Stream). s .events) (reading-on p [] (Fault code))
 
-  begins-within : (n p : ℕ) (xs : List ℕ) (e : Ending) → length xs < n → Begins xs (reading p xs e .events)
-  begins-within zero p xs e l = let never : ⊥ = omega arith in absurd never
-  begins-within (suc n) p xs e l =
-      subst (λ (s : Stream). Begins xs (s .events)) (sym (reading-on p xs e))
-      (begins-result xs (λ q ys. reading q ys e) (no-events e) (λ q ys k. begins-within n q ys e (omega arith)) (item p xs e) (item-sound p xs e) (less-from p xs e))
+  starts-within : (n p : ℕ) (xs : List ℕ) (e : Ending) → length xs < n → Starts-with xs (reading p xs e .events)
+  starts-within zero p xs e l = let never : ⊥ = omega arith in absurd never
+  starts-within (suc n) p xs e l =
+      subst (λ (s : Stream). Starts-with xs (s .events)) (sym (reading-on p xs e))
+      (starts-result xs (λ q ys. reading q ys e) (no-events e) (λ q ys k. starts-within n q ys e (omega arith)) (item p xs e) (item-sound p xs e) (less-from p xs e))
 
-  pub read-begins : (xs : List ℕ) (e : Ending) (p : ℕ) → Begins xs (reading p xs e .events)
-  read-begins xs e p = begins-within (suc (length xs)) p xs e (omega arith)
+  pub read-starts : (xs : List ℕ) (e : Ending) (p : ℕ) → Starts-with xs (reading p xs e .events)
+  read-starts xs e p = starts-within (suc (length xs)) p xs e (omega arith)

@@ -1,5 +1,5 @@
 -- Where a run of the reading is no refusal, the bytes that it took are what the format says.
-use mathlib.Core.Path.{_≡_, refl, sym, ap, ap₂, subst, subst₂, _∙_}
+use mathlib.Core.Path.{_≡_, refl, sym, ap, subst, subst₂, _∙_}
 use mathlib.Core.Bool.{Bool, true, false, cond, _||_, _&&_}
 use mathlib.Core.List.{List, [], _∷_, _++_}
 use mathlib.Core.Logic.{_≢_, _⊎_, inl, inr}
@@ -9,7 +9,7 @@ use lib.Chars.{codes}
 use lib.Dec.{eqb, leb}
 use lib.ListN.{length}
 use Rattle.std.proofs.shelf.Lists.{append-assoc, append-nil, length-append}
-use Rattle.std.proofs.shelf.Tests.{false≢true, eqb-true, eqb-false, leb-true, leb-false, and-parts, or-cases, cases-bool}
+use Rattle.std.proofs.shelf.Tests.{false≢true, eqb-true, eqb-false, leb-true, leb-false, and-parts, or-cases}
 use Rattle.std.specs.declared.option.Option.{Option}
 use Rattle.std.specs.declared.option.Option.the-variants.{Some, None}
 use Rattle.std.specs.declared.result.Result.{Result}
@@ -26,13 +26,13 @@ use Rattle.stream.specs.declared.errors.Error.the-variants.{TextTooLong, Incomp
 use Rattle.reader.specs.Comments.{line-comment, closes, state-after, in-comment}
 use Rattle.laws.specs.Format.{One-of, Each, Without, plain-ends, Ends-plain, Named, Code-unit, Escape, Quoted}
 use Rattle.laws.specs.Format.Named.{backslash, double-quote, single-quote, alert, backspace, form-feed, new-line, carriage-return, horizontal-tab, vertical-tab}
-use Rattle.reader.specs.Steps.{Done, Run, pure, refuse, onward, _>>=_, whether, or-refuse, step-gives, stepped, step, peek, then}
+use Rattle.reader.specs.Steps.{Done, Run, pure, refuse, onward, _>>=_, whether, or-refuse, step-gives, stepped, peek, then}
 use Rattle.reader.specs.Texts.{text-bytes, added, ends-plain, plain, present, quoted-byte, named, octal-escape, utf16-code-unit, letter-u, second-opened, second-code-unit, second-if, utf16-escape, escaped, escape, piece, extended, quoted-within, quoted-from}
 use Rattle.reader.specs.declared.states.Comment.{Comment}
 use Rattle.reader.specs.declared.states.Comment.the-variants.{Plain, Star}
 use Rattle.laws.proofs.Completeness.{Ends-line, star}
-use Rattle.laws.proofs.Sets.{one-of, one-of-true, none-of-false, ends-plain-is}
-use Rattle.reader.proofs.Unfolding.{Where-ok, current-is, quoted-behind}
+use Rattle.laws.proofs.Sets.{one-of-true, none-of-false, ends-plain-is}
+use Rattle.reader.proofs.Unfolding.{Where-ok, none-some, current-is, quoted-behind}
 
 pub ok-map : {A : Type 0} (r : Result (Done A) Error) (P Q : Done A → Type 0) → Where-ok P r → ((d : Done A) → P d → Q d) → Where-ok Q r
 ok-map (Ok d) P Q w h = h d w
@@ -324,7 +324,7 @@ named-sound x c w =
                                         elim (cond-some (eqb x 116) 9 c n7 w) [
                                           | inl h ↦ is 116 9 (h .0) (h .1) horizontal-tab
                                           | inr w ↦
-                                              elim (cond-some (eqb x 118) 11 c None w) [ inl h ↦ is 118 11 (h .0) (h .1) vertical-tab | inr w ↦ absurd (none w) ]
+                                              elim (cond-some (eqb x 118) 11 c None w) [ inl h ↦ is 118 11 (h .0) (h .1) vertical-tab | inr w ↦ absurd (none-some c w) ]
                                         ]
                                   ]
                             ]
@@ -335,9 +335,6 @@ named-sound x c w =
   where
     is : (y z : ℕ) → eqb x y ≡ true → z ≡ c → Named y z → Named x c
     is y z t v n = subst₂ Named (sym (eqb-true x y t)) v n
-
-    none : _≡_ {A = Option ℕ} None (Some c) → ⊥
-    none v = let z : _≡_ {A = ℕ} 0 1 = cc in omega arith
 
 escaped-sound : (x p : ℕ) (xs : List ℕ) (e : Ending) → Where-ok (λ d. Escape-read (x ∷ []) xs (d .left) (d .value)) (escaped x p xs e)
 escaped-sound x p xs e =

@@ -1,5 +1,5 @@
 -- The laws of the reading, from what its runs take and what the format says.
-use mathlib.Core.Path.{_≡_, refl, sym, ap, _∙_}
+use mathlib.Core.Path.{_≡_, sym, ap, _∙_}
 use mathlib.Core.List.{List, _∷_, _++_}
 use Prim.Native.Nat.{ℕ, _+_, _≤_}
 use native.Mathlib.Nat.{zero-add}
@@ -16,7 +16,7 @@ use Rattle.laws.specs.Format.{Lists}
 use Rattle.laws.specs.Laws.{Reading-is-the-format, followed, Token-by-token}
 use Rattle.reader.specs.Readings.{reading}
 use Rattle.laws.proofs.Listed.{lists-on, between-on, lists-line-feed-on}
-use Rattle.laws.proofs.Read.{Has-read, read-lists, read-begins}
+use Rattle.laws.proofs.Read.{Has-read, read-lists, read-starts}
 use Rattle.laws.proofs.Sets.{separator-ends}
 
 module _ (decides : (bs : List ℕ) → Decides (utf8 bs) (Utf8 bs)) (notation : Notation) where
@@ -35,7 +35,7 @@ module _ (decides : (bs : List ℕ) → Decides (utf8 bs) (Utf8 bs)) (notation :
         reads = reads;
         lists = within;
         one = λ bytes events events′ l h k. ap (λ (s : Stream). s .events) (sym (reads bytes events h l) ∙ reads bytes events′ k l);
-        begins = read-begins decides notation;
+        starts = read-starts decides notation;
       }
 
   lines : (bytes : List ℕ) (events : List Ev) → reading 0 bytes End ≡ stream events Stream-ending.End → (more : List ℕ) (ending : Ending)

@@ -1,4 +1,5 @@
 -- The format of ASCII property lists in its own words: which bytes stand for which events.
+-- A list is a row of tokens. That brackets match, and keys stand before values, is no matter of this format but of the tree that is made of the events.
 use mathlib.Core.Path.{_≡_}
 use mathlib.Core.Bool.{true}
 use mathlib.Core.List.{List, [], _∷_, _++_}
@@ -66,8 +67,8 @@ pub record Code-unit (digits : List ℕ) (unit : ℕ) : Type 0 where
   pub four : length digits ≡ 4
   pub written : numeral 16 digits ≡ Some unit
 
--- What may stand behind a backslash, and the character (its code point) that it stands for: a named character;
--- three octal digits, a number of the NEXTSTEP encoding (NEXTSTEP.TXT), from 256 on a code point;
+-- What may stand behind a backslash, and the code point of the character that it stands for: a named character;
+-- three octal digits, from 128 to 255 a character of the NEXTSTEP encoding (NEXTSTEP.TXT), else a code point;
 -- `U` and a UTF-16 code unit, or two of them that are a surrogate pair (RFC 2781), the second behind `\u` or `\U`.
 pub data Escape : List ℕ → ℕ → Type 0 where
   named : {x character : ℕ} → Named x character → Escape (x ∷ []) character
@@ -84,7 +85,7 @@ pub data Quoted (quote : ℕ) : List ℕ → List ℕ → Type 0 where
   escape : {bytes body text : List ℕ} {character : ℕ} → Escape bytes character → Quoted quote body text
       → Quoted quote (codes "\\" ++ (bytes ++ body)) (encode character ++ text)
 
--- A plain token: not empty, with no byte that may not begin it, or that ends it.
+-- A plain token: its first byte is no separator, bracket or quote, and no other byte ends it.
 pub record Plain (bytes : List ℕ) : Type 0 where
   pub first : ℕ
   pub others : List ℕ
@@ -143,7 +144,7 @@ abbrev pub Line-feed-first : List ℕ → Type 0
 Line-feed-first [] = ⊥
 Line-feed-first (x ∷ xs) = x ≡ code "\n"
 
--- Bytes that stand for nothing, and what follows them in the list: a separator, or a comment. A line feed ends a line comment.
+-- Bytes that stand for nothing, and what follows them in the list: a separator, or a comment. The line feed that ends a line comment is a separator behind it.
 pub data Skipped : List ℕ → List ℕ → Type 0 where
   separator : {x : ℕ} {rest : List ℕ} → One-of separators x → Skipped (x ∷ []) rest
   line-comment : {bytes rest : List ℕ} → Line-comment bytes → Line-feed-first rest → Skipped bytes rest
@@ -167,6 +168,6 @@ Between bytes events = Items Nothing bytes events
 abbrev pub Lists : List ℕ → List Ev → Type 0
 Lists bytes events = Items (λ bs. Nothing bs ⊎ Line-comment bs) bytes events
 
--- The bytes begin with tokens that stand for the events; what comes behind them may be anything.
-abbrev pub Begins : List ℕ → List Ev → Type 0
-Begins bytes events = Items (λ bs. Unit {0}) bytes events
+-- The bytes start with tokens that stand for the events. What comes behind these may be anything.
+abbrev pub Starts-with : List ℕ → List Ev → Type 0
+Starts-with bytes events = Items (λ bs. Unit {0}) bytes events

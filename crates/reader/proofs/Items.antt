@@ -21,7 +21,7 @@ use Rattle.reader.specs.States.{Seen, untaken, ends, Full, Moved, Ran, Took, S
 use Rattle.reader.specs.Steps.{Done, Run, current, step-gives, past, stepped, step}
 use Rattle.reader.specs.Tokens.{Item, token, passed-over, the-end, begun, begun-if, item}
 use Rattle.reader.specs.declared.states.Lookahead.the-variants.{Over}
-use Rattle.reader.proofs.Chains.{ran-then, ran-refused}
+use Rattle.reader.proofs.Chains.{ran-then, ran-refused, ran-step, ran-step-refused}
 use Rattle.reader.proofs.Unfolding.{reading-on}
 
 -- a reading is one item, and the reading of what it left
@@ -39,25 +39,6 @@ module _ (u v : Seen) where
 reads-nothing : (p : ℕ) → reading p [] End ≡ over Ending.End
 unfolding reading-within reading
 reads-nothing p = refl
-
-rest-length : (xs : List ℕ) → length (rest xs) ≤ length xs
-rest-length [] = omega arith
-rest-length (x ∷ xs) = omega arith
-
--- a step, as a run
-module _ (u v : Seen) where
-  pub ran-step : (o : Option ℕ) → Stepped u (Ok o) v → Ran step u (Ok o) v
-  ran-step o st =
-      let gives : step-gives (u .position) (untaken u) (ends u) ≡ Ok o = sym (st .gives) in
-      let took = st .took in (
-        ap (λ (r : Result (Option ℕ) Error). stepped r (u .position) (untaken u) (ends u)) gives
-            ∙ (ap (λ (p : ℕ). Ok (record { value = o; position = p; left = rest (untaken u) })) (sym (took .counts))
-            ∙ ap (λ (xs : List ℕ). Ok (record { value = o; position = v .position; left = xs })) (sym (took .leaves))),
-        record { keeps = took .keeps; shorter = omega (arith, ap length (took .leaves), rest-length (untaken u)); full = took .full; failed = took .failed },
-      )
-
-  pub ran-step-refused : (f : Error) → Stepped u (Err f) v → Ran step u (Err f) v
-  ran-step-refused f st = ap (λ (r : Result (Option ℕ) Error). stepped r (u .position) (untaken u) (ends u)) (sym (st .gives))
 
 -- a byte that was taken leaves less
 gave-some : (p : ℕ) (xs : List ℕ) (e : Source-ending) (c : ℕ) → Ok (Some c) ≡ step-gives p xs e → length (rest xs) < length xs

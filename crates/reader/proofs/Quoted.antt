@@ -1,16 +1,20 @@
 -- A quoted text, byte by byte, as the reader goes.
-use mathlib.Core.Path.{_≡_, sym, ap, _∙_}
+use mathlib.Core.Path.{_≡_, refl, sym, ap, _∙_}
 use mathlib.Core.Bool.{true, false}
 use mathlib.Core.List.{List}
 use Prim.Native.Nat.{ℕ}
+use native.Mathlib.Omega.{arith}
 use lib.Dec.{eqb}
+use Rattle.std.specs.declared.option.Option.the-variants.{Some}
 use Rattle.std.specs.declared.result.Result.{Result}
 use Rattle.std.specs.declared.result.Result.the-variants.{Ok, Err}
 use Rattle.stream.specs.declared.errors.Error.{Error}
-use Rattle.reader.specs.States.{Seen, untaken, ends, Ran}
-use Rattle.reader.specs.Steps.{Done, onward}
-use Rattle.reader.specs.Texts.{quoted-byte, extended, quoted-from}
-use Rattle.reader.proofs.Chains.{ran-on}
+use Rattle.stream.specs.declared.errors.Error.the-variants.{UnclosedString}
+use Rattle.reader.specs.States.{Seen, untaken, ends, Ran, Stepped}
+use Rattle.reader.specs.Steps.{Done, onward, step}
+use Rattle.reader.specs.Texts.{present, quoted-byte, extended, quoted-from}
+use Rattle.reader.proofs.Chains.{ran-on, ran-then, ran-refused, ran-step, ran-step-refused}
+use Rattle.reader.specs.declared.states.Lookahead.the-variants.{Over}
 use Rattle.reader.proofs.Unfolding.{quoted-behind, quoted-on}
 
 module _ (q x : ℕ) (bs : List ℕ) (u v : Seen) (first : Ran quoted-byte u (Ok x) v) where
@@ -28,3 +32,14 @@ module _ (q x : ℕ) (bs : List ℕ) (u v : Seen) (first : Ran quoted-byte u (Ok
 
 pub quoted-unclosed : (q : ℕ) (bs : List ℕ) (u v : Seen) (f : Error) → Ran quoted-byte u (Err f) v → quoted-from q bs (u .position) (untaken u) (ends u) ≡ Err f
 quoted-unclosed q bs u v f fails = quoted-on q bs (u .position) (untaken u) (ends u) ∙ ap (λ (r : Result (Done ℕ) Error). onward r (quoted-behind (quoted-from q) q bs) (ends u)) fails
+
+-- a step over a byte, in a quoted text
+pub quoted-byte-taken : (x : ℕ) (u v : Seen) → Stepped u (Ok (Some x)) v → Ran quoted-byte u (Ok x) v
+quoted-byte-taken x u v st = ran-then step present u v v (Some x) (Ok x) (ran-step u v (Some x) st) (refl, record { keeps = refl; shorter = omega arith; full = st .took .full; failed = refl })
+
+pub quoted-byte-refused : (f : Error) (u v : Seen) → Stepped u (Err f) v → Ran quoted-byte u (Err f) v
+quoted-byte-refused f u v st = ran-refused step present u v v f (ran-step-refused u v f st)
+
+-- there is none
+pub quoted-byte-none : (u : Seen) → u .peeked ≡ Over → Ran quoted-byte u (Err (UnclosedString (u .position))) u
+quoted-byte-none u over = rw over

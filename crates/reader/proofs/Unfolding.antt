@@ -1,5 +1,5 @@
 -- How far runs go: none leaves more bytes than it found, or passes the limit. So the reading goes item by item, and a quoted text piece by piece, with no count.
-use mathlib.Core.Path.{_≡_, refl, sym, ap}
+use mathlib.Core.Path.{_≡_, refl, ap}
 use mathlib.Core.Bool.{Bool, true, false, cond, _||_, _&&_}
 use mathlib.Core.List.{List, [], _∷_, _++_}
 use Prim.Native.Nat.{ℕ, zero, suc, max, _+_, _≤_, _<_}
@@ -16,15 +16,15 @@ use Rattle.text.specs.Nextstep.{nextstep}
 use Rattle.text.specs.Numbers.{number}
 use Rattle.text.specs.Utf16.{surrogate, decode}
 use Rattle.text.specs.Utf8.{utf8, encode}
-use Rattle.source.specs.Asking.{answer, ended, rest}
+use Rattle.source.specs.Asking.{answer, rest}
 use Rattle.source.specs.declared.sources.Ending.{Ending}
 use Rattle.source.specs.declared.sources.Ending.the-variants.{End, Fault}
 use Rattle.stream.specs.Streams.{Ev, Stream, over, first}
 use Rattle.stream.specs.declared.errors.Error.{Error}
-use Rattle.stream.specs.declared.errors.Error.the-variants.{TooLong, TextTooLong, UnclosedString, IncompleteComment, InvalidUtf8AsciiStream, InvalidOctalString, InvalidUtf16String}
+use Rattle.stream.specs.declared.errors.Error.the-variants.{TooLong, TextTooLong, InvalidUtf8AsciiStream, InvalidOctalString, InvalidUtf16String}
 use Rattle.reader.specs.Comments.{line-comment, closes, state-after, in-comment, block-comment}
 use Rattle.reader.specs.Readings.{before, item-then, reading-within, reading}
-use Rattle.reader.specs.Steps.{Done, Run, pure, refuse, onward, _>>=_, whether, or-refuse, limit, fetched, current, step-gives, past, stepped, step, peek, then}
+use Rattle.reader.specs.Steps.{Done, Run, pure, refuse, onward, _>>=_, whether, or-refuse, limit, current, step-gives, past, stepped, step, peek, then}
 use Rattle.reader.specs.Texts.{text-bytes, added, whole-text, ends-plain, plain, integer-or-string, unquoted, present, quoted-byte, named, octal-escape, utf16-code-unit, letter-u, second-opened, second-code-unit, second-if, utf16-escape, escaped, escape, piece, extended, quoted-within, quoted-from, quoted}
 use Rattle.reader.specs.Tokens.{Item, token, passed-over, the-end, separator, as-token, as-nothing, behind-slash, potential-comment, begun, begun-if, item}
 use Rattle.reader.specs.declared.states.Comment.{Comment}
@@ -32,7 +32,7 @@ use Rattle.reader.specs.declared.states.Comment.{Comment}
 zero-one : _≡_ {A = ℕ} 0 1 → ⊥
 zero-one z = omega arith
 
-none-some : (x : ℕ) → _≡_ {A = Option ℕ} None (Some x) → ⊥
+pub none-some : (x : ℕ) → _≡_ {A = Option ℕ} None (Some x) → ⊥
 none-some x w = let z : _≡_ {A = ℕ} 0 1 = cc in zero-one z
 
 -- what holds of a result that is no refusal

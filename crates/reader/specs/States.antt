@@ -38,6 +38,11 @@ Full Unfilled = ⊥
 Full (Byte b) = Unit {0}
 Full Over = Unit {0}
 
+abbrev pub Is-byte : Lookahead → Type 0
+Is-byte Unfilled = ⊥
+Is-byte (Byte b) = Unit {0}
+Is-byte Over = ⊥
+
 -- a reader and what its source has left
 pub record Seen : Type 0 where
   pub position : ℕ
@@ -60,6 +65,11 @@ abbrev pub held : Lookahead → Option ℕ
 held Unfilled = None
 held (Byte b) = Some b
 held Over = None
+
+-- what a step over a lookahead gives: the byte that it was
+abbrev pub over-byte : Lookahead → Result (Unit {0}) Error → Result (Option ℕ) Error
+over-byte a (Ok u) = Ok (held a)
+over-byte a (Err f) = Err f
 
 -- what was fetched, with what is then behind it, is what was behind
 abbrev pub Fetched : Seen → Result Lookahead Error → Seen → Type 0

@@ -13,7 +13,7 @@ ghost use Rattle.reader.specs.Comments.{line-comment, block-comment};
 ghost use Rattle.reader.specs.Kinds.{error-at};
 ghost use Rattle.reader.specs.Meanings.{meaning, Reads};
 ghost use Rattle.reader.specs.Readings.{reading};
-ghost use Rattle.reader.specs.States.{seen, Full, Fetched, Filled, Stepped, Ran, text-at, shown, item-at, Fitting};
+ghost use Rattle.reader.specs.States.{seen, Full, Is-byte, over-byte, Fetched, Filled, Stepped, Ran, text-at, shown, item-at, Fitting};
 ghost use Rattle.reader.specs.Tokens.{potential-comment, begun};
 ghost use Rattle.reader.specs.Texts.{quoted-byte, utf16-code-unit, second-code-unit, utf16-escape, octal-escape, named, escape, extended, ends-plain, plain, quoted-from, unquoted, quoted};
 use crate::states::Comment;
@@ -36,6 +36,9 @@ use text::utf16::is_surrogate;
 
 // The last position.
 const LAST_POSITION: u32 = 16_777_215;
+
+// The byte that begins an escape.
+const BACKSLASH: u8 = b'\\';
 
 #[derive(Drop)]
 pub struct AsciiReader<S> {
@@ -94,12 +97,21 @@ impl<S: ByteSource> AsciiReader<S> {
         let Lookahead::Byte(current) = self.peeked else {
             return Ok(None);
         };
+        self.step_over()?;
+        Ok(Some(current))
+    }
+
+    // A step over a lookahead that is a byte.
+    fn step_over(&mut self) -> Result<(), Error>
+        requires { ⌜ Is-byte (now self .peeked) ⌝ }
+        ensures { λ r. ⌜ Stepped (seen S·ByteSource (now (self .entry))) (over-byte (now (self .entry) .peeked) r) (seen S·ByteSource (now (self .exit))) ⌝ }
+    {
         self.peeked = self.read_one()?;
         if self.position >= LAST_POSITION {
             return Err(self.error(ErrorKind::TooLong));
         }
         self.position += 1;
-        Ok(Some(current))
+        Ok(())
     }
 
     // Adds the rest of a plain token to the `start` bytes in the scratch, up to the end of input or a byte that ends the token.
@@ -116,7 +128,7 @@ impl<S: ByteSource> AsciiReader<S> {
             if ends_plain(c) {
                 break;
             }
-            self.advance()?;
+            self.step_over()?;
             if n >= TEXT_BYTES {
                 return Err(self.error(ErrorKind::TextTooLong));
             }
@@ -158,7 +170,7 @@ impl<S: ByteSource> AsciiReader<S> {
             None
         };
         match decode_utf16(unit, second) {
-            Some(c) => Ok(c),
+            Some(character) => Ok(character),
             None => Err(self.error(ErrorKind::InvalidUtf16String)),
         }
     }
@@ -228,27 +240,19 @@ impl<S: ByteSource> AsciiReader<S> {
         }
     }
 
-    // Adds what the byte `c` of a quoted text stands for to the text of `n` bytes in the scratch.
-    fn extend(&mut self, c: u8, scratch: &mut [u8], n: usize) -> Result<usize, Error>
-        requires full { ⌜ Full (now self .peeked) ⌝ }
+    // Adds the character of an escape, whose backslash was taken, to the text of `n` bytes in the scratch.
+    fn add_escape(&mut self, scratch: &mut [u8], n: usize) -> Result<usize, Error>
         requires room { ⌜ 1024 ≤ length (now scratch) ⌝ }
         requires start { ⌜ n ≤ 1024 ⌝ }
-        ensures ran { λ r. ⌜ Ran (extended (take n (now (scratch .entry))) c) (seen S·ByteSource (now (self .entry))) (text-at r (now (scratch .exit))) (seen S·ByteSource (now (self .exit))) ⌝ }
+        ensures ran { λ r. ⌜ Ran (extended (take n (now (scratch .entry))) 92) (seen S·ByteSource (now (self .entry))) (text-at r (now (scratch .exit))) (seen S·ByteSource (now (self .exit))) ⌝ }
         ensures fits { λ r. ⌜ made r (λ m. m ≤ 1024) ⌝ }
         ensures kept { λ _. ⌜ beyond (now (scratch .exit)) ≡ beyond (now (scratch .entry)) ⌝ }
     {
-        if c == b'\\' {
-            let character = self.escape()?;
-            return match encode_utf8(character, &mut scratch[0..TEXT_BYTES], n) {
-                Some(end) => Ok(end),
-                None => Err(self.error(ErrorKind::TextTooLong)),
-            };
+        let character = self.escape()?;
+        match encode_utf8(character, &mut scratch[0..TEXT_BYTES], n) {
+            Some(end) => Ok(end),
+            None => Err(self.error(ErrorKind::TextTooLong)),
         }
-        if n >= TEXT_BYTES {
-            return Err(self.error(ErrorKind::TextTooLong));
-        }
-        scratch[n] = c;
-        Ok(n + 1)
     }
 
     // Puts a quoted text into the scratch, up to its closing quote, which is taken.
@@ -260,13 +264,22 @@ impl<S: ByteSource> AsciiReader<S> {
         ensures kept { λ _. ⌜ beyond (now (scratch .exit)) ≡ beyond (now (scratch .entry)) ⌝ }
     {
         let mut n = 0;
-        loop {
-            let c = self.advance_quoted_string()?;
+        while let Lookahead::Byte(c) = self.peeked {
+            self.step_over()?;
             if c == quote {
                 return Ok(n);
             }
-            n = self.extend(c, scratch, n)?;
+            if c == BACKSLASH {
+                n = self.add_escape(scratch, n)?;
+                continue;
+            }
+            if n >= TEXT_BYTES {
+                return Err(self.error(ErrorKind::TextTooLong));
+            }
+            scratch[n] = c;
+            n += 1;
         }
+        Err(self.error(ErrorKind::UnclosedString))
     }
 
     fn quoted_string_literal(&mut self, quote: u8, scratch: &mut [u8]) -> Result<Event, Error>
@@ -276,11 +289,11 @@ impl<S: ByteSource> AsciiReader<S> {
         ensures fits { λ r. ⌜ made r (λ ev. text-length ev ≤ 1024) ⌝ }
         ensures kept { λ _. ⌜ beyond (now (scratch .exit)) ≡ beyond (now (scratch .entry)) ⌝ }
     {
-        let n = self.quoted_bytes(quote, scratch)?;
-        if !is_utf8(&scratch[0..n]) {
+        let length = self.quoted_bytes(quote, scratch)?;
+        if !is_utf8(&scratch[0..length]) {
             return Err(self.error(ErrorKind::InvalidUtf8AsciiStream));
         }
-        Ok(Event::String(n))
+        Ok(Event::String(length))
     }
 
     // Takes the bytes up to the end of the line, or of the input.
@@ -292,7 +305,7 @@ impl<S: ByteSource> AsciiReader<S> {
             if c == b'\n' {
                 break;
             }
-            self.advance()?;
+            self.step_over()?;
         }
         Ok(())
     }
@@ -404,10 +417,10 @@ pub impl<S: ByteSource> EventSource for AsciiReader<S> as AsciiReaderEventSource
 fn ends_plain(c: u8) -> bool
     ensures { λ r. ⌜ r ≡ ends-plain c ⌝ }
 {
-    matches!(
-        c,
-        b' ' | b')' | b'\r' | b'\t' | b';' | b',' | b'\n' | b'}' | b'='
-    )
+    if c > b'=' {
+        return c == b'}';
+    }
+    matches!(c, b' ' | b')' | b'\r' | b'\t' | b';' | b',' | b'\n' | b'=')
 }
 
 // The character that a letter, a quote or a backslash stands for behind a backslash.

@@ -1,4 +1,4 @@
 // The reader of ASCII property lists: from bytes to events.
 pub mod ascii_reader;
 pub mod samples;
-pub mod states;
+mod states;

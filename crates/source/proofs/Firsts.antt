@@ -35,3 +35,7 @@ asked-from {bs} {e} {e′} card more is same h =
 -- a source with no bytes left
 pub asked-over : {e : Ending} {r : Result (Option ℕ) ℕ} (bs : List ℕ) → bs ≡ [] → r ≡ ended e → Asked bs e r bs e
 asked-over {e} bs none is = record { gives = is ∙ ap (λ xs. answer xs e) (sym none); leaves = none ∙ ap rest (sym none); keeps = refl }
+
+-- a source whose first byte is known
+pub asked-cons : {e : Ending} (bs bs′ : List ℕ) (b : ℕ) → bs ≡ b ∷ bs′ → Asked bs e (Ok (Some b)) bs′ e
+asked-cons {e} bs bs′ b is = record { gives = ap (λ xs. answer xs e) (sym is); leaves = ap rest (sym is); keeps = refl }

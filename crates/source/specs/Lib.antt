@@ -4,5 +4,6 @@ pub mod Decks
 pub mod Drains
 pub mod Endings
 pub mod Faults
+pub mod Repeats
 pub mod Slices
 pub mod Stacks

@@ -1,7 +1,12 @@
 // Replays published tables and worked examples against the library: a line for each table, and one for each row
 // that differs.
+mod limits;
+mod readings;
 mod rows;
 
+use limits::limits;
+use readings::same_reading;
+use readings::stored;
 use rows::Tally;
 use rows::same_units;
 use rows::same_utf8;
@@ -53,10 +58,24 @@ fn utf16(rt: &LibcRuntime) -> Result<(), AnyError> {
     tally.total(rt)
 }
 
+fn reader(rt: &LibcRuntime) -> Result<(), AnyError> {
+    let table = fs::read_to_string(rt, "reader.txt")?;
+    let mut tally = Tally::new("reader");
+    for line in table.lines() {
+        if let Some((input, wanted)) = stored(line) {
+            let same = same_reading(rt.alloc(), input, wanted)?;
+            tally.row(rt, line, same)?;
+        }
+    }
+    tally.total(rt)
+}
+
 fn run(rt: &LibcRuntime) -> Result<(), AnyError> {
     nextstep(rt)?;
     utf8(rt)?;
-    utf16(rt)
+    utf16(rt)?;
+    reader(rt)?;
+    limits(rt)
 }
 
 fn main(rt: LibcRuntime) -> Result<(), AnyError> {

@@ -7,12 +7,12 @@ use Rattle.reader.specs.States.{Moved, seen, untaken, ends}
 use Rattle.reader.specs.Texts.{quoted-from}
 use Rattle.reader.proofs.ascii_reader.AsciiReader.quoted_bytes.Given as given
 
-abbrev pub Inv-loop-c : given.InvT-loop-c
-Inv-loop-c g l =
+abbrev pub Inv-loop-self : given.InvT-loop-self
+Inv-loop-self g l =
     let v = seen (g .S·ByteSource) (l .self) in
     let v₀ = seen (g .S·ByteSource) (l .entry .self) in
     Moved v₀ v × (l .n ≤ 1024) × (beyond (l .scratch) ≡ beyond (l .entry .scratch))
     × (quoted-from (l .quote) (take (l .n) (l .scratch)) (v .position) (untaken v) (ends v) ≡ quoted-from (l .quote) [] (v₀ .position) (untaken v₀) (ends v₀))
 
-abbrev pub μ-loop-c : given.MeasureT-loop-c
-μ-loop-c g l = length (untaken (seen (g .S·ByteSource) (l .self)))
+abbrev pub μ-loop-self : given.MeasureT-loop-self
+μ-loop-self g l = length (untaken (seen (g .S·ByteSource) (l .self)))
