@@ -1,0 +1,13 @@
+pub mod Frames
+pub mod RowFacts
+pub mod Puts
+pub mod RootFacts
+pub mod AllFree
+pub mod Adding
+pub mod Appending
+pub mod Releasing
+pub mod Finding
+pub mod Counting
+pub mod WaysUp
+pub mod Spells
+pub mod Fits

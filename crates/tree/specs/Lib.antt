@@ -1,0 +1,9 @@
+pub mod Trees
+pub mod Links
+pub mod Models
+pub mod Moves
+pub mod Costs
+pub mod Keys
+pub mod Ups
+pub mod Walks
+pub mod Forms
