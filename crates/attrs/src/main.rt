@@ -1,4 +1,6 @@
 // attrs: looks at ASCII property lists from the command line.
+#![tactic(auto)]
+
 mod commands;
 mod troubles;
 

@@ -1,4 +1,6 @@
 // The text forms of events, refusals and byte sources, as the programs print them.
+#![tactic(auto)]
+
 pub mod batches;
 pub mod bytes;
 pub mod events;

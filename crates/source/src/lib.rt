@@ -1,4 +1,6 @@
 // Byte sources: where the bytes of a property list come from.
+#![tactic(auto)]
+
 pub mod buffers;
 pub mod decks;
 pub mod drains;

@@ -1,4 +1,6 @@
 // The events that spell a property list, why a call is refused, and where events come from.
+#![tactic(auto)]
+
 pub mod drains;
 pub mod either;
 pub mod errors;

@@ -1,4 +1,6 @@
 // The texts of a property list: characters and their encodings, and numbers.
+#![tactic(auto)]
+
 pub mod digits;
 pub mod escapes;
 pub mod examples;

@@ -1,4 +1,6 @@
 // Trees in cells: what values, pairs and texts look like in two arrays, and the small moves on them.
+#![tactic(auto)]
+
 pub mod arrays;
 pub mod cursor;
 pub mod moves;

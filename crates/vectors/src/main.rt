@@ -1,5 +1,7 @@
 // Replays published tables and worked examples against the library: a line for each table, and one for each row
 // that differs.
+#![tactic(auto)]
+
 mod limits;
 mod readings;
 mod rows;
