@@ -10,7 +10,7 @@ loop-source-preserved g c =
     let before = c.loop-source in
     let is : c.next.result ≡ Ok (Some b) = cc in
     let more = asked_some (s.bytes before.source) (s.ending before.source) b c.next.ensures is in
-    let items : vec_items c.push-reserved.new.self ≡ vec_items before.bytes ++ b ∷ [] = cc in (
+    let items : vec_items c.push_reserved.new.self ≡ vec_items before.bytes ++ b ∷ [] = cc in (
       ap (λ (xs : List ℕ). xs ++ s.bytes c.next.new.self) items
           ∙ (append_assoc (vec_items before.bytes) (b ∷ []) (s.bytes c.next.new.self) ∙ (ap (λ (xs : List ℕ). vec_items before.bytes ++ xs) (sym more) ∙ before.invariant.0)),
       c.next.ensures.keeps ∙ before.invariant.1,

@@ -28,7 +28,7 @@ returns c =
     let d = c.if-self-eq0.self in
     elim c.if-self-eq0.branch [
       | then-self-eq0+else-left-eq0+else-left-lt-CARD w ↦
-          let n : w.saturating-sub-left.result ≡ length was.cards.now - was.at = w.saturating-sub-left.ensures in
+          let n : w.saturating_sub-left.result ≡ length was.cards.now - was.at = w.saturating_sub-left.ensures in
           let whole : 80 ≤ length was.cards.now - was.at = omega arith in
           let wide : was.at + 72 - was.at ≡ 72 = omega arith in
           let text : d.text.now ≡ take 72 (drop was.at was.cards.now) = ap (λ (x : Deck). x.text.now) w.self-is ∙ ap (λ (n : ℕ). take n (drop was.at was.cards.now)) wide in
