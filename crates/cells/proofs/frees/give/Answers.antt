@@ -10,6 +10,6 @@ returns g c =
     record {
       first = refl;
       count = refl;
-      links = map-set m.linkof xs c.args.at c.set-link.new.self ∙ ap (set _ c.args.at) c.set-link.ensures.link;
-      loads = map_kept m.loadof xs c.args.at c.index-cells-at.result c.set-link.new.self c.index-cells-at.is c.set-link.ensures.load;
+      links = map-set m.linkof xs c.args.at c.set_link.new.self ∙ ap (set _ c.args.at) c.set_link.ensures.link;
+      loads = map_kept m.loadof xs c.args.at c.index-cells-at.result c.set_link.new.self c.index-cells-at.is c.set_link.ensures.load;
     }

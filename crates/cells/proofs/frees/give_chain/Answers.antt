@@ -13,8 +13,8 @@ below f was head list₀ xs todo list i e inv = (
   omega (arith, length-map xs f, giving_room was head list₀ (map f xs) todo list i e inv),
 )
 
-pub offset-bounds-cells-at : goal.offset-bounds-cells-at
-offset-bounds-cells-at g c =
+pub offset_bounds-cells-at : goal.offset_bounds-cells-at
+offset_bounds-cells-at g c =
     let lt : c.in-Some.at < length c.loop-todo.cells = (below g.C.Linked.linkof _ _ _ c.loop-todo.cells _ _ c.in-Some.at c.in-Some.is c.loop-todo.invariant.0).0 in
     search rules
 
@@ -50,6 +50,6 @@ loop-todo-preserved g c =
 
 pub returns : goal.returns
 returns g c = record {
-  freed = giving_done (map g.C.Linked.linkof c.args.cells.now) c.args.first c.args.list.now (map g.C.Linked.linkof c.loop-todo.cells) c.loop-todo.todo c.loop-todo.list c.in-default.is c.loop-todo.invariant.0;
+  freed = giving_done (map g.C.Linked.linkof c.args.cells.now) c.args.first c.args.list.now (map g.C.Linked.linkof c.loop-todo.cells) c.loop-todo.todo c.loop-todo.list c.in_default.is c.loop-todo.invariant.0;
   loads = c.loop-todo.invariant.1;
 }

@@ -4,6 +4,6 @@ use Rattle.laws.proofs.laws.reading_is_the_format.Goals as goal
 
 pub returns : goal.returns
 returns c =
-    let decides = c.utf8-agrees.ensures.agrees.test in
-    let notation = c.notation-stands.ensures in
+    let decides = c.utf8_agrees.ensures.agrees.test in
+    let notation = c.notation_stands.ensures in
     record { exactly = reading_is_the_format_lem decides notation; samples = format_samples decides notation }

@@ -5,6 +5,6 @@ use Rattle.report.proofs.events.push_start.Goals as goal
 
 pub returns-in-Some : goal.returns-in-Some
 returns-in-Some c =
-    IfOk-weaker c.push-shown.result _ _
+    IfOk-weaker c.push_shown.result _ _
     (λ u e. e ∙ ap (λ (n : Option ℕ). vec_items c.args.out.now ++ (c.args.word.now ++ carried (codes " ") decimal n)) (sym c.in-Some.is))
-    c.push-shown.ensures
+    c.push_shown.ensures

@@ -8,5 +8,5 @@ bits-nan nan is = refl
 bits-nan (inf s) is = absurd (let z : ◌≡◌ {A = ℕ} 0 1 = cc in omega arith)
 bits-nan (fin s m e) is = absurd (let z : ◌≡◌ {A = ℕ} 0 1 = cc in omega arith)
 
-pub returns-then-is-nan : goal.returns-then-is-nan
-returns-then-is-nan c = bits-nan c.args.x (sym c.is-nan.ensures.value ∙ c.if-is-nan.true)
+pub returns-then-is_nan : goal.returns-then-is_nan
+returns-then-is_nan c = bits-nan c.args.x (sym c.is_nan.ensures.value ∙ c.if-is_nan.true)

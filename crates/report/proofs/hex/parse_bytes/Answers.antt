@@ -8,4 +8,4 @@ pub returns : goal.returns
 returns c =
     let word = c.args.word.now in
     let same : from_hex word ≡ from_word word = grind (arith, nat_tests) in
-    IfOk-weaker c.parse-hex.result _ _ (λ _ is. is ∙ same) c.parse-hex.ensures
+    IfOk-weaker c.parse_hex.result _ _ (λ _ is. is ∙ same) c.parse_hex.ensures

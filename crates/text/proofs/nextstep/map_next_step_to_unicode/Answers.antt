@@ -8,9 +8,9 @@ returns-in-128-to-255 c =
     let t = from_table c.args.c c.from.result (omega arith) (omega arith) c.from.ensures in
     record { value = t.0; scalar = λ _. t.1 }
 
-pub returns-in-default : goal.returns-in-default
+pub returns-in_default : goal.returns-in_default
 unfolding nextstep
-returns-in-default c = search rules
+returns-in_default c = search rules
 
 pub returns-in-default·2 : goal.returns-in-default·2
 unfolding nextstep

@@ -2,16 +2,16 @@ use Rattle.std.proofs.Common.{◌<◌, length, ◌∙◌, rules}
 use Rattle.text.proofs.Places.{reading_more, reading_breaks, reading_ends}
 use Rattle.text.proofs.numbers.magnitude.Goals as goal
 
-pub returns-in-err-n : goal.returns-in-err-n
-returns-in-err-n c =
-    c.from-residual.ensures
+pub returns-in_err-n : goal.returns-in_err-n
+returns-in_err-n c =
+    c.from_residual.ensures
     ∙ reading_breaks c.args.base c.args.digits.now c.loop-byte.n c.loop-byte.byte-index c.loop-byte.invariant c.requires
-    c.loop-byte-test.true c.in-err-n.ensures
+    c.loop-byte-test.true c.in_err-n.ensures
 
 pub loop-byte-preserved : goal.loop-byte-preserved
 loop-byte-preserved c =
-    reading_more c.args.base c.args.digits.now c.loop-byte.n c.loop-byte.byte-index c.loop-byte.invariant c.in-ok-n.n
-    c.loop-byte-test.true c.in-ok-n.ensures
+    reading_more c.args.base c.args.digits.now c.loop-byte.n c.loop-byte.byte-index c.loop-byte.invariant c.in_ok-n.n
+    c.loop-byte-test.true c.in_ok-n.ensures
 
 pub returns : goal.returns
 returns c =

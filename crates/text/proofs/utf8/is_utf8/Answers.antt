@@ -8,8 +8,8 @@ pub loop-byte-init : goal.loop-byte-init
 unfolding utf8
 loop-byte-init c = refl
 
-pub returns-in-default : goal.returns-in-default
-returns-in-default c = goes_not (ranges c.loop-byte.due) c.args.bytes.now c.loop-byte.byte-index (omega arith) c.in-default.ensures ∙ c.loop-byte.invariant
+pub returns-in_default : goal.returns-in_default
+returns-in_default c = goes_not (ranges c.loop-byte.due) c.args.bytes.now c.loop-byte.byte-index (omega arith) c.in_default.ensures ∙ c.loop-byte.invariant
 
 pub loop-byte-preserved-then-byte-lt128 : goal.loop-byte-preserved-then-byte-lt128
 loop-byte-preserved-then-byte-lt128 c =

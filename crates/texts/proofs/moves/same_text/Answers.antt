@@ -50,7 +50,7 @@ returns c = record {
   same = λ is bs h n.
       let cs = c.args.cells.now in
       let spans = subst (λ (k : ℕ). Spans cs c.args.first is k) n h.spans in (
-        λ e. sym (ap (λ (k : ℕ). text_of cs is k) (sym n) ∙ h.says) ∙ reading_same cs c.args.first c.args.n c.args.key.now c.parts.done c.parts.todo is c.in-default.is (omega arith) spans c.parts.invariant,
+        λ e. sym (ap (λ (k : ℕ). text_of cs is k) (sym n) ∙ h.says) ∙ reading_same cs c.args.first c.args.n c.args.key.now c.parts.done c.parts.todo is c.in_default.is (omega arith) spans c.parts.invariant,
         λ e. refl,
       );
 }

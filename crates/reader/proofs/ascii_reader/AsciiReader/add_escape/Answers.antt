@@ -12,14 +12,14 @@ pub returns-in-Some : goal.returns-in-Some
 returns-in-Some g c =
     let n = c.args.n in
     let s = c.args.scratch.now in
-    let out = c.encode-utf8.new.out in
+    let out = c.encode_utf8.new.out in
     let end = c.in-Some.end in
-    let y = c.in-ok-character.character in
+    let y = c.in_ok-character.character in
     let u = seen g.S.ByteSource c.args.self.now in
     let v = seen g.S.ByteSource c.escape.new.self in
     let room : 1024 ≤ length s = c.requires.room in
     let at : EncodedAt y n end (take 1024 s) out = c.in-Some.ensures in
-    let first : Ran escape u (Ok y) v = c.in-ok-character.ensures.ran in
+    let first : Ran escape u (Ok y) v = c.in_ok-character.ensures.ran in
     let text : take end (out ++ drop 1024 s) ≡ take n s ++ encode y = encoded_text 1024 n end y s out room at (drop 1024 s) in
     let fits : end ≤ 1024 = encoded_fits 1024 n end y s out room at in
     let long : length (take n s) ≡ n = length-take-le n s (omega arith) in
@@ -35,15 +35,15 @@ pub returns-in-None : goal.returns-in-None
 returns-in-None g c =
     let n = c.args.n in
     let s = c.args.scratch.now in
-    let out = c.encode-utf8.new.out in
-    let y = c.in-ok-character.character in
+    let out = c.encode_utf8.new.out in
+    let y = c.in_ok-character.character in
     let u = seen g.S.ByteSource c.args.self.now in
     let v = seen g.S.ByteSource c.escape.new.self in
     let room : 1024 ≤ length s = c.requires.room in
-    let first : Ran escape u (Ok y) v = c.in-ok-character.ensures.ran in
+    let first : Ran escape u (Ok y) v = c.in_ok-character.ensures.ran in
     let long : length (take n s) ≡ n = length-take-le n s (omega arith) in
     let all : length (take 1024 s) ≡ 1024 = length-take-le 1024 s room in
-    let no = c.in-None.ensures.0 c.in-ok-character.ensures.scalar in
+    let no = c.in-None.ensures.0 c.in_ok-character.ensures.scalar in
     let big : 1024 < length (take n s) + length (encode y) = omega (arith, no) in
     let ran : Ran (extended (take n s) 92) u (Err (TextTooLong v.position)) v = ran_escape (take n s) 92 y u v (Err (TextTooLong v.position)) refl first (ran_too_long (take n s) v first.1.full (encode y) big) in
     record {

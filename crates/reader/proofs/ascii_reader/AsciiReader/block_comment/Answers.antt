@@ -11,6 +11,6 @@ returns-in-Star-eq47 g c =
     let u = seen g.S.ByteSource c.args.self.now in
     let v = seen g.S.ByteSource c.advance.new.self in
     let w = seen g.S.ByteSource c.advance-in-loop-c.new.self in
-    let first : Ran step u (Ok c.in-ok-advance.field-0) v = search rules in
+    let first : Ran step u (Ok c.in_ok-advance.field-0) v = search rules in
     let later : Ran (in_comment Plain) v (Ok tt) w = search rules in
-    ran_then step (λ _. in_comment Plain) u v w c.in-ok-advance.field-0 (Ok tt) first later
+    ran_then step (λ _. in_comment Plain) u v w c.in_ok-advance.field-0 (Ok tt) first later

@@ -13,15 +13,15 @@ use Rattle.reader.proofs.Chains.{moved_trans}
 use Rattle.reader.proofs.Quoted.{quoted_closes, quoted_goes_on, quoted_refuses, quoted_unclosed, quoted_byte_taken, quoted_byte_refused, quoted_byte_none}
 use Rattle.reader.proofs.ascii_reader.AsciiReader.quoted_bytes.Goals as goal
 
-pub returns-in-err-step-over : goal.returns-in-err-step-over
-returns-in-err-step-over g c =
+pub returns-in_err-step_over : goal.returns-in_err-step_over
+returns-in_err-step_over g c =
     let q = c.args.quote in
     let bs = take c.loop-self.n c.loop-self.scratch in
     let u = seen g.S.ByteSource c.loop-self.self in
-    let v = seen g.S.ByteSource c.step-over.new.self in
-    let f = c.in-err-step-over.field-0.0 in
-    let first : Ran quoted_byte u (Err f) v = quoted_byte_refused f u v c.in-err-step-over.ensures in
-    let out = err_from_is_err_and c.from-residual.result c.from-residual.ensures.1 in
+    let v = seen g.S.ByteSource c.step_over.new.self in
+    let f = c.in_err-step_over.field-0.0 in
+    let first : Ran quoted_byte u (Err f) v = quoted_byte_refused f u v c.in_err-step_over.ensures in
+    let out = err_from_is_err_and c.from_residual.result c.from_residual.ensures.1 in
     rw (out.1, out.2) (record { ran = sym c.loop-self.invariant.3 ∙ quoted_unclosed q bs u v f first; fits = tt; kept = c.loop-self.invariant.2 })
 
 pub returns-then-c-quote : goal.returns-then-c-quote
@@ -31,47 +31,47 @@ returns-then-c-quote g c =
     let bs = take c.loop-self.n c.loop-self.scratch in
     let v₀ = seen g.S.ByteSource c.args.self.now in
     let u = seen g.S.ByteSource c.loop-self.self in
-    let v = seen g.S.ByteSource c.step-over.new.self in
+    let v = seen g.S.ByteSource c.step_over.new.self in
     let byte : u.peeked ≡ Byte x = search rules in
-    let first : Ran quoted_byte u (Ok x) v = quoted_byte_taken x u v (subst (λ (a : Lookahead). Stepped u (Ok (held a)) v) byte c.in-ok-step-over.ensures) in
+    let first : Ran quoted_byte u (Ok x) v = quoted_byte_taken x u v (subst (λ (a : Lookahead). Stepped u (Ok (held a)) v) byte c.in_ok-step_over.ensures) in
     let is : eqb x q ≡ true = search rules in
     let closed = quoted_closes q x bs u v first is in
     record { ran = (sym c.loop-self.invariant.3 ∙ closed.0, moved_trans v₀ u v c.loop-self.invariant.0 closed.1); fits = c.loop-self.invariant.1; kept = c.loop-self.invariant.2 }
 
-pub returns-in-err-n : goal.returns-in-err-n
-returns-in-err-n g c =
+pub returns-in_err-n : goal.returns-in_err-n
+returns-in_err-n g c =
     let q = c.args.quote in
     let x = c.in-Byte.c in
     let bs = take c.loop-self.n c.loop-self.scratch in
     let u = seen g.S.ByteSource c.loop-self.self in
-    let v = seen g.S.ByteSource c.step-over.new.self in
-    let w = seen g.S.ByteSource c.add-escape.new.self in
-    let f = c.in-err-n.field-0.0 in
+    let v = seen g.S.ByteSource c.step_over.new.self in
+    let w = seen g.S.ByteSource c.add_escape.new.self in
+    let f = c.in_err-n.field-0.0 in
     let byte : u.peeked ≡ Byte x = search rules in
-    let first : Ran quoted_byte u (Ok x) v = quoted_byte_taken x u v (subst (λ (a : Lookahead). Stepped u (Ok (held a)) v) byte c.in-ok-step-over.ensures) in
+    let first : Ran quoted_byte u (Ok x) v = quoted_byte_taken x u v (subst (λ (a : Lookahead). Stepped u (Ok (held a)) v) byte c.in_ok-step_over.ensures) in
     let other : eqb x q ≡ false = search rules in
     let backslash : x ≡ 92 = search rules in
-    let fails : Ran (extended bs x) v (Err f) w = subst (λ (y : ℕ). Ran (extended bs y) v (Err f) w) (sym backslash) c.in-err-n.ensures.ran in
-    let out = err_from_is_err_and c.from-residual-in-err-n.result c.from-residual-in-err-n.ensures.1 in
-    rw (out.1, out.2) (record { ran = sym c.loop-self.invariant.3 ∙ quoted_refuses q x bs u v first f w other fails; fits = tt; kept = c.add-escape.ensures.kept ∙ c.loop-self.invariant.2 })
+    let fails : Ran (extended bs x) v (Err f) w = subst (λ (y : ℕ). Ran (extended bs y) v (Err f) w) (sym backslash) c.in_err-n.ensures.ran in
+    let out = err_from_is_err_and c.from_residual-in_err-n.result c.from_residual-in_err-n.ensures.1 in
+    rw (out.1, out.2) (record { ran = sym c.loop-self.invariant.3 ∙ quoted_refuses q x bs u v first f w other fails; fits = tt; kept = c.add_escape.ensures.kept ∙ c.loop-self.invariant.2 })
 
 pub loop-self-preserved-then-c-eq-BACKSLASH : goal.loop-self-preserved-then-c-eq-BACKSLASH
 loop-self-preserved-then-c-eq-BACKSLASH g c =
     let q = c.args.quote in
     let x = c.in-Byte.c in
     let bs = take c.loop-self.n c.loop-self.scratch in
-    let cs = take c.in-ok-n.n c.add-escape.new.scratch in
+    let cs = take c.in_ok-n.n c.add_escape.new.scratch in
     let v₀ = seen g.S.ByteSource c.args.self.now in
     let u = seen g.S.ByteSource c.loop-self.self in
-    let v = seen g.S.ByteSource c.step-over.new.self in
-    let w = seen g.S.ByteSource c.add-escape.new.self in
+    let v = seen g.S.ByteSource c.step_over.new.self in
+    let w = seen g.S.ByteSource c.add_escape.new.self in
     let byte : u.peeked ≡ Byte x = search rules in
-    let first : Ran quoted_byte u (Ok x) v = quoted_byte_taken x u v (subst (λ (a : Lookahead). Stepped u (Ok (held a)) v) byte c.in-ok-step-over.ensures) in
+    let first : Ran quoted_byte u (Ok x) v = quoted_byte_taken x u v (subst (λ (a : Lookahead). Stepped u (Ok (held a)) v) byte c.in_ok-step_over.ensures) in
     let other : eqb x q ≡ false = search rules in
     let backslash : x ≡ 92 = search rules in
-    let more : Ran (extended bs x) v (Ok cs) w = subst (λ (y : ℕ). Ran (extended bs y) v (Ok cs) w) (sym backslash) c.in-ok-n.ensures.ran in
+    let more : Ran (extended bs x) v (Ok cs) w = subst (λ (y : ℕ). Ran (extended bs y) v (Ok cs) w) (sym backslash) c.in_ok-n.ensures.ran in
     let moved : Moved v₀ w = moved_trans v₀ v w (moved_trans v₀ u v c.loop-self.invariant.0 first.1) more.1 in
-    (moved, c.in-ok-n.ensures.fits, c.add-escape.ensures.kept ∙ c.loop-self.invariant.2, quoted_goes_on q x bs u v first cs w other more ∙ c.loop-self.invariant.3)
+    (moved, c.in_ok-n.ensures.fits, c.add_escape.ensures.kept ∙ c.loop-self.invariant.2, quoted_goes_on q x bs u v first cs w other more ∙ c.loop-self.invariant.3)
 
 pub loop-self-preserved : goal.loop-self-preserved
 loop-self-preserved g c =
@@ -82,9 +82,9 @@ loop-self-preserved g c =
     let bs = take n s in
     let v₀ = seen g.S.ByteSource c.args.self.now in
     let u = seen g.S.ByteSource c.loop-self.self in
-    let v = seen g.S.ByteSource c.step-over.new.self in
+    let v = seen g.S.ByteSource c.step_over.new.self in
     let byte : u.peeked ≡ Byte x = search rules in
-    let first : Ran quoted_byte u (Ok x) v = quoted_byte_taken x u v (subst (λ (a : Lookahead). Stepped u (Ok (held a)) v) byte c.in-ok-step-over.ensures) in
+    let first : Ran quoted_byte u (Ok x) v = quoted_byte_taken x u v (subst (λ (a : Lookahead). Stepped u (Ok (held a)) v) byte c.in_ok-step_over.ensures) in
     let other : eqb x q ≡ false = search rules in
     let raw : eqb x 92 ≡ false = search rules in
     let long : length bs ≡ n = length-take-le n s (omega arith) in
@@ -93,17 +93,17 @@ loop-self-preserved g c =
     let on : quoted_from q (bs ++ x ∷ []) v.position (untaken v) (ends v) ≡ quoted_from q bs u.position (untaken u) (ends u) = quoted_goes_on q x bs u v first (bs ++ x ∷ []) v other more in
     (moved_trans v₀ u v c.loop-self.invariant.0 first.1, omega arith, beyond_set s n x (omega arith) ∙ c.loop-self.invariant.2, ap (λ (cs : List ℕ). quoted_from q cs v.position (untaken v) (ends v)) written ∙ (on ∙ c.loop-self.invariant.3))
 
-pub returns-then-n-ge-TEXT-BYTES : goal.returns-then-n-ge-TEXT-BYTES
-returns-then-n-ge-TEXT-BYTES g c =
+pub returns-then-n-ge-TEXT_BYTES : goal.returns-then-n-ge-TEXT_BYTES
+returns-then-n-ge-TEXT_BYTES g c =
     let q = c.args.quote in
     let x = c.in-Byte.c in
     let s = c.loop-self.scratch in
     let n = c.loop-self.n in
     let bs = take n s in
     let u = seen g.S.ByteSource c.loop-self.self in
-    let v = seen g.S.ByteSource c.step-over.new.self in
+    let v = seen g.S.ByteSource c.step_over.new.self in
     let byte : u.peeked ≡ Byte x = search rules in
-    let first : Ran quoted_byte u (Ok x) v = quoted_byte_taken x u v (subst (λ (a : Lookahead). Stepped u (Ok (held a)) v) byte c.in-ok-step-over.ensures) in
+    let first : Ran quoted_byte u (Ok x) v = quoted_byte_taken x u v (subst (λ (a : Lookahead). Stepped u (Ok (held a)) v) byte c.in_ok-step_over.ensures) in
     let other : eqb x q ≡ false = search rules in
     let raw : eqb x 92 ≡ false = search rules in
     let long : length bs ≡ n = length-take-le n s (omega arith) in

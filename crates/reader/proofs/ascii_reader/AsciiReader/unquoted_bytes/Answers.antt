@@ -13,7 +13,7 @@ loop-self-preserved g c =
     let n = c.loop-self.n in
     let b = c.in-Byte.c in
     let u = seen g.S.ByteSource c.loop-self.self in
-    let v = seen g.S.ByteSource c.step-over.new.self in
+    let v = seen g.S.ByteSource c.step_over.new.self in
     let v₀ = seen g.S.ByteSource c.args.self.now in
     let more : take (n + 1) (set s n b) ≡ take n s ++ b ∷ [] = take_more_set s n b (omega arith) in
     let long : length (take n s) ≡ n = length-take-le n s (omega arith) in
@@ -22,5 +22,5 @@ loop-self-preserved g c =
     let room : leb 1024 (length (take n s)) ≡ false = search rules in
     let moved : Moved v₀ v = search rules in
     let on : plain (take n s ++ b ∷ []) v.position (untaken v) (ends v) ≡ plain (take n s) u.position (untaken u) (ends u) =
-    plain_on (take n s) u v b (held u.peeked) is goes_on c.in-ok-step-over.ensures room in
+    plain_on (take n s) u v b (held u.peeked) is goes_on c.in_ok-step_over.ensures room in
     (moved, omega arith, beyond_set s n b (omega arith) ∙ c.loop-self.invariant.2, ap (λ (bs : List ℕ). plain bs v.position (untaken v) (ends v)) more ∙ (on ∙ c.loop-self.invariant.3))

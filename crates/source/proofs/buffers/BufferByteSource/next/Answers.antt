@@ -16,8 +16,8 @@ pub returns-in_err-fill : goal.returns-in_err-fill
 returns-in_err-fill g c =
     let s = g.S.ByteSource in
     let was = c.args.self.now in
-    let low = ap s.bytes c.take-held.ensures.below in
-    let end = ap s.ending c.take-held.ensures.below in
+    let low = ap s.bytes c.take_held.ensures.below in
+    let end = ap s.ending c.take_held.ensures.below in
     let filled = c.in_err-fill.ensures in
     let none : None ≡ first (held was) = search rules in
     let is : c.from_residual.result ≡ Err c.in_err-fill.field-0.0 = search rules in

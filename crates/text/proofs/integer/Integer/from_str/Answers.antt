@@ -12,6 +12,6 @@ returns-in-48 c =
     let second : get_or c.args.bytes.now 1 0 ≡ 120 = search rules in
     simp take_rest at c.unsigned.ensures ∙ ap ranged (sym (written_hexadecimal c.args.bytes.now any first second))
 
-pub returns-in-default : goal.returns-in-default
+pub returns-in_default : goal.returns-in_default
 unfolding number
-returns-in-default c = search rules
+returns-in_default c = search rules

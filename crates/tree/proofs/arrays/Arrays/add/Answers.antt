@@ -3,15 +3,15 @@ use Rattle.cells.specs.Chains.{rest}
 use Rattle.tree.proofs.Adding.{model_added, sound_texts, sound_first, sound_none, sound_long}
 use Rattle.tree.proofs.arrays.Arrays.add.Goals as goal
 
-pub write-text-requires : goal.write-text-requires
-write-text-requires c = record { short = c.requires.short; spare = sound_texts c.args.self.now c.requires.sound }
+pub write_text-requires : goal.write_text-requires
+write_text-requires c = record { short = c.requires.short; spare = sound_texts c.args.self.now c.requires.sound }
 
 pub take-requires : goal.take-requires
 take-requires c = record { within = λ i e. sound_first c.args.self.now i e c.requires.sound }
 
-pub returns-in-default-take : goal.returns-in-default-take
-returns-in-default-take c =
-    let none : c.args.self.now.free_nodes.count ≤ 0 = sound_none c.args.self.now (sym c.in-default-take.ensures.result) c.requires.sound in
+pub returns-in_default-take : goal.returns-in_default-take
+returns-in_default-take c =
+    let none : c.args.self.now.free_nodes.count ≤ 0 = sound_none c.args.self.now (sym c.in_default-take.ensures.result) c.requires.sound in
     let never : ⊥ = omega arith in
     absurd never
 
@@ -31,9 +31,9 @@ returns c = record {
         (
           rest rep.0,
           y.1,
-          model_added a.nodes a.free_nodes c.take.new.list a.texts c.write-text.new.cells a.free_texts c.write-text.new.list ts rep.0 rep.1 y.0 y.1
+          model_added a.nodes a.free_nodes c.take.new.list a.texts c.write_text.new.cells a.free_texts c.write_text.new.list ts rep.0 rep.1 y.0 y.1
               c.in-Some-take.n c.args.up c.args.content c.args.text.now c.in-Some.first _
-              (sym c.in-Some-take.ensures.result) took.0 took.1 c.write-text.auto.cells refl y.2 rep.2,
+              (sym c.in-Some-take.ensures.result) took.0 took.1 c.write_text.auto.cells refl y.2 rep.2,
         ),
       );
 }

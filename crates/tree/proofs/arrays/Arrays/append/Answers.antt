@@ -6,8 +6,8 @@ use Rattle.tree.specs.Moves.{appended}
 use Rattle.tree.proofs.Appending.{model_append, append_room}
 use Rattle.tree.proofs.arrays.Arrays.append.Goals as goal
 
-pub link-below-requires : goal.link-below-requires
-link-below-requires c =
+pub link_below-requires : goal.link_below-requires
+link_below-requires c =
     let r = append_room c.args.self.now c.args.to c.args.new c.requires.placed in
     record { to-within = r.to_in; new-within = r.new_in; last_within = r.last_in; room = omega (arith, r.few) }
 
@@ -17,7 +17,7 @@ returns c = record {
       let a = c.args.self.now in (
         rep.0,
         rep.1,
-        subst (λ (xs : List Node). Model xs a.free_nodes a.texts a.free_texts None nil (appended c.args.to c.args.new ts) rep.0 rep.1) (sym c.link-below.ensures)
+        subst (λ (xs : List Node). Model xs a.free_nodes a.texts a.free_texts None nil (appended c.args.to c.args.new ts) rep.0 rep.1) (sym c.link_below.ensures)
             (model_append a.nodes a.free_nodes a.texts a.free_texts ts rep.0 rep.1 rep.2 c.args.to c.args.new h),
       );
 }

@@ -14,8 +14,8 @@ bounds-self-dictionary c =
     let d = detach_in c.args.self.now c.args.dictionary c.requires.placed in
     omega (arith, d.0, d.1)
 
-pub find-key-requires : goal.find-key-requires
-find-key-requires c =
+pub find_key-requires : goal.find_key-requires
+find_key-requires c =
     let a = c.args.self.now in
     let n = c.args.dictionary in
     let lt = (detach_in a n c.requires.placed).0 in
@@ -32,5 +32,5 @@ returns c =
     let lt = (detach_in a n c.requires.placed).0 in
     record {
       found = λ ts rep p.
-          c.find-key.ensures.found (below n ts) (below_row a n _ (ap (λ (y : Node). y.first) (get_or_default a.nodes n c.index-self-dictionary.result blank lt)) ts rep p).0;
+          c.find_key.ensures.found (below n ts) (below_row a n _ (ap (λ (y : Node). y.first) (get_or_default a.nodes n c.index-self-dictionary.result blank lt)) ts rep p).0;
     }

@@ -13,8 +13,8 @@ bounds-self-at c =
     let r = first_room c.args.self.now c.args.at c.requires.held in
     omega (arith, r.within, r.long)
 
-pub give-chain-requires : goal.give-chain-requires
-give-chain-requires c =
+pub give_chain-requires : goal.give_chain-requires
+give_chain-requires c =
     let a = c.args.self.now in
     let r = first_room a c.args.at c.requires.held in
     record {
@@ -22,8 +22,8 @@ give-chain-requires c =
       held = first_text a c.args.at _ (ap (λ (x : Node). x.text) (get_or_default a.nodes c.args.at c.index-self-at.result blank r.within)) c.requires.held;
     }
 
-pub clear-node-requires : goal.clear-node-requires
-clear-node-requires c =
+pub clear_node-requires : goal.clear_node-requires
+clear_node-requires c =
     let r = first_room c.args.self.now c.args.at c.requires.held in
     record { within = r.within; last_within = r.last; room = omega (arith, r.room) }
 
@@ -32,8 +32,8 @@ returns c =
     let a = c.args.self.now in
     let r = first_room a c.args.at c.requires.held in
     record {
-      freed = first_freed a c.args.at _ c.clear-node.new.nodes c.clear-node.new.list c.give-chain.new.cells c.give-chain.new.list c.clear-node.result
+      freed = first_freed a c.args.at _ c.clear_node.new.nodes c.clear_node.new.list c.give_chain.new.cells c.give_chain.new.list c.clear_node.result
           (ap (λ (x : Node). x.text) (get_or_default a.nodes c.args.at c.index-self-at.result blank r.within))
-          c.clear-node.ensures.next c.clear-node.ensures.first c.clear-node.ensures.count c.clear-node.ensures.links c.clear-node.ensures.loads
-          c.give-chain.ensures.freed c.give-chain.ensures.loads;
+          c.clear_node.ensures.next c.clear_node.ensures.first c.clear_node.ensures.count c.clear_node.ensures.links c.clear_node.ensures.loads
+          c.give_chain.ensures.freed c.give_chain.ensures.loads;
     }

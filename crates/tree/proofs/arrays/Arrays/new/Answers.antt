@@ -12,7 +12,7 @@ pub returns : goal.returns
 returns c = (
   _,
   _,
-  model_new (replicate 512 blank) c.give-all-free-nodes.new.cells c.give-all-free-nodes.result (replicate 1024 zeros) c.give-all-free-texts.new.cells c.give-all-free-texts.result
+  model_new (replicate 512 blank) c.give_all-free_nodes.new.cells c.give_all-free_nodes.result (replicate 1024 zeros) c.give_all-free_texts.new.cells c.give_all-free_texts.result
       (length-replicate 512 blank) (length-replicate 1024 zeros) (blank_at 512)
-      c.give-all-free-nodes.ensures.free c.give-all-free-nodes.ensures.loads c.give-all-free-texts.ensures.free c.give-all-free-texts.ensures.loads,
+      c.give_all-free_nodes.ensures.free c.give_all-free_nodes.ensures.loads c.give_all-free_texts.ensures.free c.give_all-free_texts.ensures.loads,
 )

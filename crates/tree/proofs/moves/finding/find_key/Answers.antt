@@ -12,8 +12,8 @@ pairs-init c = record { some = c.requires.row; each = λ w r. (w, r, refl) }
 pub bounds-nodes-pair : goal.bounds-nodes-pair
 bounds-nodes-pair c = finding_in c.args.nodes.now c.args.texts.now c.args.key.now c.args.first c.pairs.todo c.in-Some.pair c.in-Some.is c.pairs.invariant
 
-pub same-text-requires : goal.same-text-requires
-same-text-requires c =
+pub same_text-requires : goal.same_text-requires
+same_text-requires c =
     let ns = c.args.nodes.now in
     let i = c.in-Some.pair in
     let lt = finding_in ns c.args.texts.now c.args.key.now c.args.first c.pairs.todo i c.in-Some.is c.pairs.invariant in
@@ -23,16 +23,16 @@ same-text-requires c =
           (finding_text ns c.args.texts.now c.args.key.now c.args.first c.pairs.todo i c.in-Some.is c.pairs.invariant);
     }
 
-pub returns-then-same-text : goal.returns-then-same-text
-returns-then-same-text c =
+pub returns-then-same_text : goal.returns-then-same_text
+returns-then-same_text c =
     let ns = c.args.nodes.now in
     let cs = c.args.texts.now in
     let i = c.in-Some.pair in
     let lt = finding_in ns cs c.args.key.now c.args.first c.pairs.todo i c.in-Some.is c.pairs.invariant in
     let read = get_or_read ns i c.index-nodes-pair.result lt c.index-nodes-pair.is blank in
     record {
-      found = finding_found ns cs c.args.key.now c.args.first c.pairs.todo i c.in-Some.is c.pairs.invariant c.same-text.result c.if-same-text.true
-          (subst (λ (y : Node). (is bs : List ℕ) → Holds cs y.text is bs → length bs ≡ y.length → Decides c.same-text.result (bs ≡ c.args.key.now)) read c.same-text.ensures.same);
+      found = finding_found ns cs c.args.key.now c.args.first c.pairs.todo i c.in-Some.is c.pairs.invariant c.same_text.result c.if-same_text.true
+          (subst (λ (y : Node). (is bs : List ℕ) → Holds cs y.text is bs → length bs ≡ y.length → Decides c.same_text.result (bs ≡ c.args.key.now)) read c.same_text.ensures.same);
     }
 
 pub pairs-smaller : goal.pairs-smaller
@@ -53,8 +53,8 @@ pairs-preserved c =
     let lt = finding_in ns cs c.args.key.now c.args.first c.pairs.todo i c.in-Some.is c.pairs.invariant in
     let read = get_or_read ns i c.index-nodes-pair.result lt c.index-nodes-pair.is blank in
     subst (λ (h : Option ℕ). Finding ns cs c.args.key.now c.args.first h) (sym (ap (λ (y : Node). y.next) read))
-    (finding_more ns cs c.args.key.now c.args.first c.pairs.todo i c.in-Some.is c.pairs.invariant c.same-text.result c.if-same-text.false
-    (subst (λ (y : Node). (is bs : List ℕ) → Holds cs y.text is bs → length bs ≡ y.length → Decides c.same-text.result (bs ≡ c.args.key.now)) read c.same-text.ensures.same))
+    (finding_more ns cs c.args.key.now c.args.first c.pairs.todo i c.in-Some.is c.pairs.invariant c.same_text.result c.if-same_text.false
+    (subst (λ (y : Node). (is bs : List ℕ) → Holds cs y.text is bs → length bs ≡ y.length → Decides c.same_text.result (bs ≡ c.args.key.now)) read c.same_text.ensures.same))
 
 pub returns : goal.returns
-returns c = record { found = finding_none c.args.nodes.now c.args.texts.now c.args.key.now c.args.first c.pairs.todo c.in-default.is c.pairs.invariant }
+returns c = record { found = finding_none c.args.nodes.now c.args.texts.now c.args.key.now c.args.first c.pairs.todo c.in_default.is c.pairs.invariant }

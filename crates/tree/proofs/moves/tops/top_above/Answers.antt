@@ -37,4 +37,4 @@ loop-up-preserved c =
     way_more ns c.args.n c.loop-up.at c.loop-up.up i c.in-Some.is c.loop-up.invariant _ (ap (λ (x : Node). x.up) (get_or_default ns i c.index-nodes-above.result blank lt))
 
 pub returns : goal.returns
-returns c = record { top = way_done c.args.nodes.now c.args.n c.loop-up.at c.loop-up.up c.in-default.is c.loop-up.invariant }
+returns c = record { top = way_done c.args.nodes.now c.args.n c.loop-up.at c.loop-up.up c.in_default.is c.loop-up.invariant }
