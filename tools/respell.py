@@ -12,7 +12,9 @@ import sys
 
 NAME = r"[A-Za-z_][A-Za-z0-9_'₀-₉]*(?:-[A-Za-z0-9_'₀-₉]+)+"
 TOKEN = re.compile(r"(?<![\w'₀-₉·◌/+*=<>%^|&\\-])" + NAME + r"(?![\w'₀-₉·◌-])")
-STRINGS = re.compile(r'"(?:[^"\\]|\\.)*"')
+# text in quotes, and single characters, of which one may be a quote
+QUOTED = re.compile(r"""b?'(?:[^'\\]|\\.)'|"(?:[^"\\]|\\.)*\"""")
+
 
 def own_files():
     return [f for d in ("specs", "proofs") for f in glob.glob(f"crates/*/{d}/*.antt")]
@@ -69,7 +71,7 @@ def main():
         text = open(path, encoding="utf-8").read()
         if path.endswith(".rt"):
             parts, at = [], 0
-            for m in STRINGS.finditer(text):
+            for m in QUOTED.finditer(text):
                 parts.append(TOKEN.sub(one, text[at : m.start()]) + m.group(0))
                 at = m.end()
             new = "".join(parts) + TOKEN.sub(one, text[at:])
