@@ -21,7 +21,8 @@ def own_files():
 
 
 def declared():
-    """The names with a dash that our own files define: types, definitions, lemmas, fields and constructors."""
+    """The names with a dash that our own files define: types, definitions, lemmas, fields and constructors,
+    and what imports call them."""
     dashed = set()
     for path in own_files():
         for line in open(path, encoding="utf-8"):
@@ -36,6 +37,10 @@ def declared():
                 continue
             if "-" in name:
                 dashed.add(name)
+    for path in own_files() + glob.glob("crates/*/src/**/*.rt", recursive=True):
+        for line in open(path, encoding="utf-8"):
+            if re.match(r"(ghost )?use ", line):
+                dashed.update(re.findall(r" as ([\w']+(?:-[\w']+)+)", line))
     return dashed
 
 
