@@ -1,21 +1,21 @@
 -- A new tree of one node.
-use Rattle.std.proofs.Common.{◌≡◌, ℕ, ◌+◌, ◌-◌, ◌<◌, ◌≤◌, ◌≢◌, ◌⊎◌, List, [], ◌∷◌, ◌++◌, map, length, get_or, set, Some, None, Option, sym, refl, ap, ◌∙◌, subst, inl, inr, arith, length-set, get_or-set_other, get_or-set_same}
+use Rattle.std.proofs.Common.{◌≡◌, ℕ, ◌+◌, ◌-◌, ◌<◌, ◌≤◌, List, [], ◌∷◌, length, get_or, set, Some, None, Option, sym, refl, ap, ◌∙◌, subst, inl, inr, arith, length-set, get_or-set_same}
 use mathlib.Core.Logic.{∥∥₁_elim, ∥∥₁_map}
 use native.Mathlib.Bridge.{le_prop}
 use lib.ListN.{length-map}
 use Rattle.cells.specs.declared.frees.FreeList.{FreeList}
-use Rattle.cells.specs.Chains.{Chain, occ, Once, first, rest}
+use Rattle.cells.specs.Chains.{Chain, occ, first, rest}
 use Rattle.cells.specs.Frees.{Free}
-use Rattle.cells.proofs.Occs.{occ_here, occ_append, some_or_none}
+use Rattle.cells.proofs.Occs.{occ_here, some_or_none}
 use Rattle.cells.proofs.Giving.{free_rest, free_agree, free_some, free_none, free_below}
 use Rattle.texts.specs.declared.cell.TextCell.{TextCell}
 use Rattle.texts.specs.Texts.{Holds, Wrote, links as text_links}
 use Rattle.tree.specs.declared.arrays.Arrays.{Arrays}
 use Rattle.tree.specs.declared.nodes.Node.{Node}
 use Rattle.tree.specs.declared.nodes.Content.{Content}
-use Rattle.tree.specs.Trees.{Trees, Label, nil, node, nodes_of, texts_of, first_of, at, links, blank, shown, Row, Roots}
-use Rattle.tree.specs.Models.{Model, Represents, Sound}
-use Rattle.tree.proofs.Frames.{Agree, agree_set, row_agree, roots_agree, roots_texts, row_texts, link_at}
+use Rattle.tree.specs.Trees.{Trees, Label, nil, node, nodes_of, texts_of, at, links, blank, shown}
+use Rattle.tree.specs.Models.{Model, Sound}
+use Rattle.tree.proofs.Frames.{Agree, agree_set, roots_agree, roots_texts, link_at}
 use Rattle.tree.proofs.RowFacts.{row_below, roots_below, row_texts_below, roots_texts_below, text_occ_node}
 
 -- Links of nodes that agree on some cells.

@@ -1,8 +1,8 @@
 -- Arrays whose cells are all free.
-use Rattle.std.proofs.Common.{◌≡◌, ℕ, zero, suc, ◌+◌, ◌<◌, List, [], ◌∷◌, map, length, get_or, replicate, None, sym, refl, ap, ◌∙◌, arith}
+use Rattle.std.proofs.Common.{◌≡◌, ℕ, zero, suc, List, [], ◌∷◌, map, length, get_or, replicate, None, sym, refl, ap, ◌∙◌, arith}
 use lib.ListN.{length-map}
 use Rattle.cells.specs.declared.frees.FreeList.{FreeList}
-use Rattle.cells.specs.Chains.{down, occ}
+use Rattle.cells.specs.Chains.{down}
 use Rattle.cells.specs.Frees.{Free}
 use Rattle.cells.proofs.Downs.{occ_down}
 use Rattle.texts.specs.declared.cell.TextCell.{TextCell}

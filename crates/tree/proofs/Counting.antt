@@ -1,8 +1,6 @@
 -- What is free, and what the trees cost.
-use Rattle.std.proofs.Common.{◌≡◌, ℕ, ◌+◌, ◌<◌, List, [], ◌∷◌, ◌++◌, length, Some, None, Option, refl, ap, ◌∙◌, arith, length-append}
+use Rattle.std.proofs.Common.{◌≡◌, ℕ, ◌+◌, List, ◌++◌, length, None, Option, refl, ap, ◌∙◌, arith, length-append}
 use lib.ListN.{length-map}
-use Rattle.cells.specs.declared.frees.FreeList.{FreeList}
-use Rattle.cells.specs.Chains.{occ}
 use Rattle.cells.proofs.Tallies.{shared_out}
 use Rattle.cells.proofs.Giving.{free_below}
 use Rattle.texts.specs.declared.cell.TextCell.{TextCell}
@@ -11,7 +9,7 @@ use Rattle.tree.specs.declared.arrays.Arrays.{Arrays}
 use Rattle.tree.specs.declared.nodes.Node.{Node}
 use Rattle.tree.specs.Trees.{Trees, nil, node, nodes_of, texts_of, first_of, at, links, Row, Roots}
 use Rattle.tree.specs.Costs.{node_cost, text_cost}
-use Rattle.tree.specs.Models.{Model, Represents}
+use Rattle.tree.specs.Models.{Represents}
 use Rattle.tree.proofs.RowFacts.{roots_below, roots_texts_below}
 
 nodes_cost : (ts : Trees) → length (nodes_of ts) ≡ node_cost ts

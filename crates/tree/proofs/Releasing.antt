@@ -1,11 +1,11 @@
 -- Trees given back node by node.
-use Rattle.std.proofs.Common.{◌≡◌, ℕ, zero, suc, ◌+◌, ◌-◌, ◌<◌, ◌≤◌, true, ◌≢◌, ◌⊎◌, List, [], ◌∷◌, ◌++◌, map, length, get_or, set, Some, None, Option, sym, refl, ap, ◌∙◌, subst, ap₂, inl, inr, arith, length-set, get_or-set_other, get_or-set_same}
+use Rattle.std.proofs.Common.{◌≡◌, ℕ, zero, suc, ◌+◌, ◌-◌, ◌<◌, ◌≤◌, true, ◌≢◌, List, [], ◌∷◌, ◌++◌, map, length, get_or, set, Some, None, Option, sym, refl, ap, ◌∙◌, subst, inl, inr, arith, length-set, get_or-set_other, get_or-set_same}
 use mathlib.Core.Logic.{∥∥₁_elim, ∥∥₁_map}
 use native.Mathlib.Bridge.{le_prop}
 use lib.ListN.{length-map}
 use Rattle.cells.specs.declared.frees.FreeList.{FreeList}
 use Rattle.cells.specs.Chains.{Chain, occ, Once, first}
-use Rattle.cells.specs.Frees.{Free, Parted, Freed}
+use Rattle.cells.specs.Frees.{Parted, Freed}
 use Rattle.cells.proofs.Occs.{occ_here, occ_append, occ_cases}
 use Rattle.cells.proofs.Tallies.{most}
 use Rattle.cells.proofs.Giving.{free_give, free_below}
@@ -14,10 +14,10 @@ use Rattle.texts.specs.Texts.{at as text_at, links as text_links}
 use Rattle.texts.proofs.Writing.{link_at as text_link_at}
 use Rattle.tree.specs.declared.arrays.Arrays.{Arrays}
 use Rattle.tree.specs.declared.nodes.Node.{Node}
-use Rattle.tree.specs.Trees.{Trees, Label, nil, node, nodes_of, texts_of, first_of, last_or, rooted, tree, without, opened, join, at, links, blank, shown, Row, Roots}
+use Rattle.tree.specs.Trees.{Trees, Label, nil, node, nodes_of, texts_of, first_of, last_or, rooted, tree, without, opened, join, at, links, blank, Row}
 use Rattle.tree.specs.Links.{ending, unlinked, linked, first_or_lem, cleared}
 use Rattle.tree.specs.Models.{Model, Holding, Represents}
-use Rattle.tree.proofs.Frames.{Agree, agree_set, agree_then, row_agree, roots_agree, TextsAgree, row_texts, roots_texts, link_at}
+use Rattle.tree.proofs.Frames.{Agree, agree_set, agree_then, row_agree, roots_agree, row_texts, roots_texts, link_at}
 use Rattle.tree.proofs.RowFacts.{row_join, row_linked, linked_at, linked_long, linked_in, occ_join, text_occ_join, text_occ_node}
 use Rattle.tree.proofs.RootFacts.{occ_tree, text_occ_tree, roots_without, row_tree}
 use Rattle.tree.proofs.AllFree.{unlinked_at}

@@ -1,7 +1,7 @@
 // Walks over trees, step by step.
 ghost use Rattle.std.specs.Prelude.{◌≡◌, ℕ, ◌<◌, None};
 ghost use Rattle.cells.specs.Chains.{occ};
-ghost use Rattle.tree.specs.Trees.{Trees, nodes_of, at as NodeAt};
+ghost use Rattle.tree.specs.Trees.{Trees, nodes_of, at as node_at_lem};
 ghost use Rattle.tree.specs.Models.{Represents};
 ghost use Rattle.tree.specs.Forms.{SpelledFit};
 ghost use Rattle.tree.specs.Ups.{Under};
@@ -13,7 +13,7 @@ use crate::nodes::{FREE, Node};
 
 // The node at an index, or a free one past the end.
 pub fn node_at(nodes: &[Node], i: u16) -> Node
-    ensures { result ≡ NodeAt nodes.now i }
+    ensures { result ≡ node_at_lem nodes.now i }
 {
     if (i as usize) < nodes.len() {
         nodes[i as usize]
