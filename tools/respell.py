@@ -51,6 +51,9 @@ def functions():
 
 
 def respelled(name, taken):
+    # a value in spite of its capital; the code's function node_at answers it
+    if name == "Node-at":
+        return "node_at_lem"
     if name[0].isupper():
         return "".join(p[0].upper() + p[1:] for p in name.split("-"))
     new = name.replace("-", "_")

@@ -1,10 +1,14 @@
 -- The syntax of UTF-8 describes the encodings of scalar values, and the standard library's predicate says the same.
+<<<<<<< HEAD
 use Rattle.std.proofs.Common.{◌≡◌, ℕ, suc, ◌+◌, ◌-◌, ◌*◌, ◌/◌, ◌%◌, ◌<◌, ◌≤◌, Bool, true, false, cond, ◌&&◌, ◌||◌, ltb, leb, ◌⊎◌, List, [], ◌∷◌, ◌++◌, IsUtf8 as StdUtf8, sym, refl, ap, ◌∙◌, subst, inl, inr, ⊎_elim, arith}
+=======
+use Rattle.std.proofs.Common.{◌≡◌, ℕ, suc, ◌+◌, ◌-◌, ◌*◌, ◌/◌, ◌<◌, ◌≤◌, true, ◌&&◌, ltb, leb, ◌⊎◌, List, [], ◌∷◌, ◌++◌, IsUtf8 as Std-utf8, sym, refl, ◌∙◌, subst, inl, inr, ⊎_elim, arith}
+>>>>>>> a25568a844bdbf761a7b7fdb5e9bac35a3accfb1
 use lib.Utf8 as Std
 use Rattle.std.proofs.lemmas.Bool.{le-leb, lt-leb, leb-true, and_parts, and_from, or_cases, or_left, or_right, cases_lt}
 use Rattle.std.proofs.lemmas.Bool.Decides.{nat_tests}
 use Rattle.text.proofs.Grammar.{inside_parts, inside_from}
-use Rattle.text.specs.Utf8.{Range, ◌to◌, tail, inside, utf8_char, OfRow, none, more, OfTable, here, there, Utf8, empty, then, scalar, scalars, low_six_lem, encode, encodes, EncodesSome, BothWays}
+use Rattle.text.specs.Utf8.{tail, inside, utf8_char, none, more, OfTable, here, there, Utf8, empty, then, scalar, scalars, low_six_lem, encode, encodes, EncodesSome, BothWays}
 
 -- scalar values by their numbers
 abbrev pub Scalar : ℕ → Type 0
