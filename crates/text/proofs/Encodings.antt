@@ -1,9 +1,5 @@
 -- The syntax of UTF-8 describes the encodings of scalar values, and the standard library's predicate says the same.
-<<<<<<< HEAD
-use Rattle.std.proofs.Common.{◌≡◌, ℕ, suc, ◌+◌, ◌-◌, ◌*◌, ◌/◌, ◌%◌, ◌<◌, ◌≤◌, Bool, true, false, cond, ◌&&◌, ◌||◌, ltb, leb, ◌⊎◌, List, [], ◌∷◌, ◌++◌, IsUtf8 as StdUtf8, sym, refl, ap, ◌∙◌, subst, inl, inr, ⊎_elim, arith}
-=======
 use Rattle.std.proofs.Common.{◌≡◌, ℕ, suc, ◌+◌, ◌-◌, ◌*◌, ◌/◌, ◌<◌, ◌≤◌, true, ◌&&◌, ltb, leb, ◌⊎◌, List, [], ◌∷◌, ◌++◌, IsUtf8 as StdUtf8, sym, refl, ◌∙◌, subst, inl, inr, ⊎_elim, arith}
->>>>>>> a25568a844bdbf761a7b7fdb5e9bac35a3accfb1
 use lib.Utf8 as Std
 use Rattle.std.proofs.lemmas.Bool.{le-leb, lt-leb, leb-true, and_parts, and_from, or_cases, or_left, or_right, cases_lt}
 use Rattle.std.proofs.lemmas.Bool.Decides.{nat_tests}
