@@ -1,12 +1,15 @@
--- What a list of events means is fit.
+-- What a list of events means is fit, and what either of two sources means.
 use Rattle.std.specs.Prelude.{◌≡◌, ℕ, ◌≤◌, Bool, true, false, cond, List, [], ◌∷◌, length, Some, None, Option, nat_le, is_some, refl}
 use Rattle.std.proofs.Common.{ap, true≢false}
 use Rattle.std.proofs.lemmas.Bool.{leb-true}
 use Rattle.text.specs.Utf8.{utf8}
 use Rattle.stream.specs.declared.errors.Error.{Error}
 use Rattle.stream.specs.declared.sources.Ending.{Ending}
+use Rattle.stream.specs.declared.either.Either.{Either}
+use Rattle.stream.specs.declared.either.Either.TheVariants.{Left, Right}
 use Rattle.stream.specs.Lists.{unfit, unless, one_more, fit_part}
-use Rattle.stream.specs.Streams.{Ev, first, Fit, EachFit}
+use Rattle.stream.specs.Sides.{side}
+use Rattle.stream.specs.Streams.{Ev, Stream, first, Fit, EachFit}
 
 -- the tests of `unfit`, passed
 passed : (n : ℕ) (bs : List ℕ) (b : Bool) (o : Option Error) → nat_le (length bs) 1024 ≡ b → cond b o (Some (Error.TextTooLong n)) ≡ None → (length bs ≤ 1024) × (o ≡ None)
@@ -39,3 +42,8 @@ part_fit n (ev ∷ evs) end = go (unfit n ev) refl (part_fit (one_more n) evs en
     go : (o : Option Error) → unfit n ev ≡ o → EachFit (fit_part (one_more n) evs end).events → EachFit (unless o (first ev (fit_part (one_more n) evs end))).events
     go None none rest = (fit_event n ev none, rest)
     go (Some e) is rest = tt
+
+-- a source of one of two types means what is fit, where sources of both do
+pub side_fit : {X Y : Type 0} (f : X → Stream) (g : Y → Stream) → ((x : X) → EachFit (f x).events) → ((y : Y) → EachFit (g y).events) → (e : Either X Y) → EachFit (side f g e).events
+side_fit f g h i (Left x) = h x
+side_fit f g h i (Right y) = i y

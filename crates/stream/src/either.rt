@@ -1,6 +1,6 @@
 // A source of one of two types, so that sources of both can stand in one slice.
+ghost use Rattle.stream.specs.Fits.{side_fit};
 ghost use Rattle.stream.specs.Sides.{side};
-ghost use Rattle.std.proofs.Common.{rules};
 
 use crate::errors::Error;
 use crate::events::Event;
@@ -15,7 +15,7 @@ pub enum Either<L, R> {
 impl<L: EventSource, R: EventSource> EventSource for Either<L, R> {
     ghost means = { side L.EventSource.means R.EventSource.means };
 
-    ghost fit = { Prim.search rules };
+    ghost fit = { side_fit L.EventSource.means R.EventSource.means L.EventSource.fit R.EventSource.fit };
 
     fn next(&mut self, scratch: &mut [u8]) -> Result<Option<Event>, Error> {
         match self {
