@@ -1,7 +1,7 @@
 -- Bytes held in a part of a block, and a block filled from below.
 use Rattle.std.proofs.Common.{◌≡◌, ℕ, suc, ◌+◌, ◌-◌, ◌<◌, ◌≤◌, min, ◌⊎◌, List, [], ◌∷◌, ◌++◌, length, get_or, take, drop, Some, None, Ok, Err, Option, Result, sym, refl, ap, ◌∙◌, inl, inr, arith, length-drop, take-append-drop, drop_of_length-le, length-take, take_all, take_at, drop_at}
 use Rattle.std.proofs.lemmas.List.{drop_more, append-nil, nil_from_length}
-use Rattle.source.specs.Asking.{Asked, answer, ended, first, rest}
+use Rattle.source.specs.Asking.{Asked, ended, first, rest}
 use Rattle.source.specs.Buffers.{part, Ahead}
 use Rattle.source.specs.declared.sources.Ending.{Ending}
 use Rattle.source.specs.declared.sources.Ending.TheVariants.{End, Fault}

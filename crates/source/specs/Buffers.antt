@@ -1,5 +1,5 @@
 -- What a buffer means: the bytes it holds, then the bytes below, with the ending below.
-use Rattle.std.specs.Prelude.{◌≡◌, ℕ, ◌-◌, ◌≤◌, List, [], ◌∷◌, ◌++◌, length, take, drop, Ok, Err, Result}
+use Rattle.std.specs.Prelude.{◌≡◌, ℕ, ◌-◌, List, [], ◌∷◌, ◌++◌, take, drop, Ok, Err, Result}
 use Rattle.source.specs.declared.sources.Ending.{Ending}
 use Rattle.source.specs.declared.sources.Ending.TheVariants.{End, Fault}
 use Rattle.source.specs.declared.buffers.Buffer.{Buffer}

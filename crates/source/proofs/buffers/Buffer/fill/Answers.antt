@@ -1,4 +1,4 @@
-use Rattle.std.proofs.Common.{◌≡◌, ℕ, ◌+◌, ◌<◌, ◌≤◌, List, [], ◌∷◌, ◌++◌, length, take, set, Some, Ok, sym, refl, ap, ◌∙◌, inl, inr, arith, length-set, length-take}
+use Rattle.std.proofs.Common.{◌≡◌, ℕ, ◌+◌, ◌<◌, ◌≤◌, List, [], ◌∷◌, ◌++◌, length, take, set, Some, Ok, sym, ap, ◌∙◌, inl, inr, arith, length-set, length-take}
 use Rattle.std.proofs.lemmas.List.{take_more_set, append_assoc}
 use Rattle.source.proofs.Blocks.{part_from, cut}
 use Rattle.source.proofs.Told.{asked_some, asked_none, asked_fault}

@@ -1,4 +1,4 @@
-use Rattle.std.proofs.Common.{◌≡◌, ◌≤◌, min, length, sym, refl, ap, ◌∙◌, arith}
+use Rattle.std.proofs.Common.{sym, refl, ap, ◌∙◌, arith}
 use Rattle.source.specs.Asking.{first, rest}
 use Rattle.source.proofs.Blocks.{part_none, part_some}
 use Rattle.source.proofs.buffers.Buffer.take_held.Goals as goal

@@ -1,4 +1,4 @@
-use Rattle.std.proofs.Common.{◌≡◌, ℕ, List, take, drop, None, Ok, Err, sym, refl, ap, ◌∙◌, rules}
+use Rattle.std.proofs.Common.{◌≡◌, take, drop, None, Ok, Err, sym, ap, ◌∙◌, rules}
 use Rattle.source.specs.Asking.{first, rest}
 use Rattle.source.specs.Buffers.{held}
 use Rattle.source.proofs.Blocks.{asked_held, asked_filled, asked_faulted}
