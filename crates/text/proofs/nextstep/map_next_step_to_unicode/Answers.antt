@@ -12,6 +12,6 @@ pub returns-in_default : goal.returns-in_default
 unfolding nextstep
 returns-in_default c = search rules
 
-pub returns-in-default·2 : goal.returns-in-default·2
+pub returns-in_default-2 : goal.returns-in_default-2
 unfolding nextstep
-returns-in-default·2 c = search rules
+returns-in_default-2 c = search rules
