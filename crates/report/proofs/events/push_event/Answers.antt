@@ -21,7 +21,7 @@ returns-in-EndCollection c =
 pub returns-in-Data : goal.returns-in-Data
 returns-in-Data c =
     let s = c.args.scratch.now in
-    let part = front s c.min.result c.in-Data.field-0 (c.min.ensures ∙ ap (λ (n : ℕ). min n (length s)) (c.text_length_lem.ensures ∙ ap text_length_lem c.in-Data.is)) in
+    let part = front s c.min.result c.in-Data.field-0 (c.min.ensures ∙ ap (λ (n : ℕ). min n (length s)) (c.text_length.ensures ∙ ap text_length_lem c.in-Data.is)) in
     event_added c.push_worded_hex.result _ (vec_items c.args.out.now) _ c.args.given (Data c.in-Data.field-0) s
     c.in-Data.is (ap (λ (xs : List ℕ). codes "Data " ++ hex xs) part) c.push_worded_hex.ensures
 
@@ -34,6 +34,6 @@ returns-in-Real c =
 pub returns-in-String : goal.returns-in-String
 returns-in-String c =
     let s = c.args.scratch.now in
-    let part = front s c.min.result c.in-String.field-0 (c.min.ensures ∙ ap (λ (n : ℕ). min n (length s)) (c.text_length_lem.ensures ∙ ap text_length_lem c.in-String.is)) in
+    let part = front s c.min.result c.in-String.field-0 (c.min.ensures ∙ ap (λ (n : ℕ). min n (length s)) (c.text_length.ensures ∙ ap text_length_lem c.in-String.is)) in
     event_added c.push_worded_hex-in-String.result _ (vec_items c.args.out.now) _ c.args.given (String c.in-String.field-0) s
     c.in-String.is (ap (λ (xs : List ℕ). codes "String " ++ hex xs) part) c.push_worded_hex-in-String.ensures

@@ -13,7 +13,7 @@ loop-b-preserved c =
     let b = get_or bytes i 0 in
     let out = vec_items c.loop-b.out in
     let room : i < length bytes = omega arith in
-    let high : vec_items c.push.new.self ≡ out ++ hex_digit_lem (b / 16) ∷ [] = cc (c.in_ok-push.ensures.items, c.hex_digit_lem.ensures) in
+    let high : vec_items c.push.new.self ≡ out ++ hex_digit_lem (b / 16) ∷ [] = cc (c.in_ok-push.ensures.items, c.hex_digit.ensures) in
     let low : vec_items c.push-in-loop-b.new.self ≡ vec_items c.push.new.self ++ hex_digit_lem (b % 16) ∷ [] = cc (c.in_ok-push-2.ensures.items, c.hex_digit-in-loop-b.ensures) in
     two out (hex_digit_lem (b / 16)) (hex_digit_lem (b % 16)) (hex (drop (i + 1) bytes)) high low ∙ (ap (λ (xs : List ℕ). out ++ hex xs) (sym (drop_more bytes i 0 room)) ∙ c.loop-b.invariant)
 
