@@ -12,14 +12,17 @@ import sys
 
 NAME = r"[A-Za-z_][A-Za-z0-9_'₀-₉]*(?:-[A-Za-z0-9_'₀-₉]+)+"
 TOKEN = re.compile(r"(?<![\w'₀-₉·◌/+*=<>%^|&\\-])" + NAME + r"(?![\w'₀-₉·◌-])")
-STRINGS = re.compile(r'"(?:[^"\\]|\\.)*"')
+# text in quotes, and single characters, of which one may be a quote
+QUOTED = re.compile(r"""b?'(?:[^'\\]|\\.)'|"(?:[^"\\]|\\.)*\"""")
+
 
 def own_files():
     return [f for d in ("specs", "proofs") for f in glob.glob(f"crates/*/{d}/*.antt")]
 
 
 def declared():
-    """The names with a dash that our own files define: types, definitions, lemmas, fields and constructors."""
+    """The names with a dash that our own files define: types, definitions, lemmas, fields and constructors,
+    and what imports call them."""
     dashed = set()
     for path in own_files():
         for line in open(path, encoding="utf-8"):
@@ -34,6 +37,10 @@ def declared():
                 continue
             if "-" in name:
                 dashed.add(name)
+    for path in own_files() + glob.glob("crates/*/src/**/*.rt", recursive=True):
+        for line in open(path, encoding="utf-8"):
+            if re.match(r"(ghost )?use ", line):
+                dashed.update(re.findall(r" as ([\w']+(?:-[\w']+)+)", line))
     return dashed
 
 
@@ -44,6 +51,9 @@ def functions():
 
 
 def respelled(name, taken):
+    # a value in spite of its capital; the code's function node_at answers it
+    if name == "Node-at":
+        return "node_at_lem"
     if name[0].isupper():
         return "".join(p[0].upper() + p[1:] for p in name.split("-"))
     new = name.replace("-", "_")
@@ -69,7 +79,7 @@ def main():
         text = open(path, encoding="utf-8").read()
         if path.endswith(".rt"):
             parts, at = [], 0
-            for m in STRINGS.finditer(text):
+            for m in QUOTED.finditer(text):
                 parts.append(TOKEN.sub(one, text[at : m.start()]) + m.group(0))
                 at = m.end()
             new = "".join(parts) + TOKEN.sub(one, text[at:])

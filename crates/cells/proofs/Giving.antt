@@ -1,10 +1,10 @@
 -- A chain given back cell by cell.
-use Rattle.std.proofs.Common.{◌≡◌, ℕ, zero, suc, ◌+◌, ◌<◌, ◌≤◌, ◌≢◌, ◌⊎◌, List, [], ◌∷◌, ◌++◌, length, get_or, set, Some, None, Option, sym, refl, ap, ◌∙◌, subst, inl, inr, arith, length-append, length-set, get_or-set_other}
+use Rattle.std.proofs.Common.{◌≡◌, ℕ, suc, ◌+◌, ◌<◌, ◌≤◌, ◌≢◌, List, [], ◌∷◌, ◌++◌, length, get_or, set, Some, None, Option, sym, refl, ap, ◌∙◌, subst, inl, inr, arith, length-append, get_or-set_other}
 use mathlib.Core.Logic.{∥∥₁_elim, ∥∥₁_map}
 use native.Mathlib.Bridge.{le_prop}
 use Rattle.std.proofs.lemmas.Bool.Decides.{nat_tests}
 use Rattle.cells.specs.declared.frees.FreeList.{FreeList}
-use Rattle.cells.specs.Chains.{Chain, rest, occ, Once}
+use Rattle.cells.specs.Chains.{Chain, rest, occ}
 use Rattle.cells.specs.Frees.{Free, Parted, Freed}
 use Rattle.cells.proofs.Occs.{occ_here, occ_append, occ_split}
 use Rattle.cells.proofs.Tallies.{most}

@@ -16,7 +16,7 @@ pub struct FreeList {
 pub fn take<C: Linked>(cells: &[C], list: &mut FreeList) -> Option<u16>
     requires within { (i : ℕ) → list.old.first ≡ Some i → (i < length cells.now) × (0 < list.old.count) }
     ensures result { result ≡ list.old.first }
-    ensures some { (i : ℕ) → result ≡ Some i → (list.new.first ≡ slice_index_or (map linkof cells.now) i None) × (list.new.count ≡ list.old.count - 1) }
+    ensures some { (i : ℕ) → result ≡ Some i → (list.new.first ≡ slice_index_or (map C.linkof cells.now) i None) × (list.new.count ≡ list.old.count - 1) }
     ensures none { result ≡ None → list.new ≡ list.old }
 {
     match list.first {
@@ -35,8 +35,8 @@ pub fn give<C: Linked>(cells: &mut [C], list: &mut FreeList, at: u16)
     requires room { list.old.count < 65535 }
     ensures first { list.new.first ≡ Some at }
     ensures count { list.new.count ≡ list.old.count + 1 }
-    ensures links { map linkof cells.new ≡ slice_set (map linkof cells.old) at list.old.first }
-    ensures loads { map loadof cells.new ≡ map loadof cells.old }
+    ensures links { map C.linkof cells.new ≡ slice_set (map C.linkof cells.old) at list.old.first }
+    ensures loads { map C.loadof cells.new ≡ map C.loadof cells.old }
 {
     let mut cell = cells[at as usize];
     cell.set_link(list.first);
@@ -48,8 +48,8 @@ pub fn give<C: Linked>(cells: &mut [C], list: &mut FreeList, at: u16)
 // Makes a list of all the cells of an array.
 pub fn give_all<C: Linked>(cells: &mut [C]) -> FreeList
     requires few { length cells.old ≤ 65535 }
-    ensures free { Free (map linkof cells.new) result (down (length cells.old)) }
-    ensures loads { map loadof cells.new ≡ map loadof cells.old }
+    ensures free { Free (map C.linkof cells.new) result (down (length cells.old)) }
+    ensures loads { map C.loadof cells.new ≡ map C.loadof cells.old }
 {
     let mut list = FreeList {
         first: None,
@@ -64,9 +64,9 @@ pub fn give_all<C: Linked>(cells: &mut [C]) -> FreeList
 // Gives a whole chain of cells back, first to last.
 pub fn give_chain<C: Linked>(cells: &mut [C], list: &mut FreeList, first: Option<u16>)
     requires few { length cells.old ≤ 65535 }
-    requires held { ∥ ((is : List ℕ) × (free : List ℕ) × Parted (map linkof cells.old) first is list.old free) ∥₁ }
-    ensures freed { (is free : List ℕ) → Parted (map linkof cells.old) first is list.old free → ((left : List ℕ) × Freed (map linkof cells.old) is free (map linkof cells.new) list.new left) }
-    ensures loads { map loadof cells.new ≡ map loadof cells.old }
+    requires held { ∥ ((is : List ℕ) × (free : List ℕ) × Parted (map C.linkof cells.old) first is list.old free) ∥₁ }
+    ensures freed { (is free : List ℕ) → Parted (map C.linkof cells.old) first is list.old free → ((left : List ℕ) × Freed (map C.linkof cells.old) is free (map C.linkof cells.new) list.new left) }
+    ensures loads { map C.loadof cells.new ≡ map C.loadof cells.old }
 {
     let mut todo = first;
     while let Some(at) = todo {

@@ -10,7 +10,7 @@ use Rattle.source.specs.declared.sources.Ending.{Ending}
 use Rattle.source.specs.declared.sources.Ending.TheVariants.{End}
 use Rattle.stream.specs.Streams.{Ev, stream, over}
 use Rattle.stream.specs.declared.errors.Error.TheVariants.{InvalidUtf8AsciiStream}
-use Rattle.stream.specs.declared.sources.Ending.{Ending as Stream-ending}
+use Rattle.stream.specs.declared.sources.Ending.{Ending as StreamEnding}
 use Rattle.reader.specs.Comments.{line_comment_lem, in_comment, block_comment_lem}
 use Rattle.laws.specs.Format.{OneOf, Each, separators, plain_ends, no_plain_begins, Text, Quoted, Plain, PlainEvent, Number, EndsPlain, SlashGoesOn, BeginsNoComment, Token, LineComment, BlockComment, LineFeedFirst, Skipped, Items, Nothing, Lists}
 use Rattle.laws.specs.Laws.{followed}
@@ -215,16 +215,16 @@ module _ (decides : (bs : List ℕ) → Decides (utf8 bs) (Utf8 bs)) (notation :
   open_line_on rest e s ends bytes p q (inr c) w l =
       reading_on p (bytes ++ rest) e ∙ ap (λ r. item_then r (λ i zs. reading i zs e)) (line_item_on bytes rest c ends p q e s w l)
 
-  at_end : (p : ℕ) → reading p [] End ≡ over Stream-ending.End
+  at_end : (p : ℕ) → reading p [] End ≡ over StreamEnding.End
   at_end p = reading_on p [] End
 
   -- a whole list
-  pub lists_on : (bytes : List ℕ) (events : List Ev) → Lists bytes events → (p : ℕ) → p + length bytes ≤ limit → reading p bytes End ≡ stream events Stream-ending.End
+  pub lists_on : (bytes : List ℕ) (events : List Ev) → Lists bytes events → (p : ℕ) → p + length bytes ≤ limit → reading p bytes End ≡ stream events StreamEnding.End
   lists_on bytes events h p l =
       ap (λ bs. reading p bs End) (sym (append-nil bytes))
       ∙ items_on (λ bs. Nothing bs ⊎ LineComment bs) [] End tt tt (open_line_on [] End tt tt) h p (p + length bytes) refl l
       ∙ ap (followed events) (at_end (p + length bytes))
-      ∙ ap (λ evs. stream evs Stream-ending.End) (append-nil events)
+      ∙ ap (λ evs. stream evs StreamEnding.End) (append-nil events)
 
   -- what ends between tokens, and something that may follow a plain token
   pub between_on : (bytes : List ℕ) (events : List Ev) → Items Nothing bytes events → (b : ℕ) (more : List ℕ) (e : Ending) → OneOf plain_ends b → (p : ℕ) → p + length bytes ≤ limit

@@ -11,7 +11,7 @@ use Rattle.source.specs.declared.sources.Ending.TheVariants.{End, Fault}
 use Rattle.stream.specs.Streams.{Ev, Stream, stream, over, first}
 use Rattle.stream.specs.declared.errors.Error.{Error}
 use Rattle.stream.specs.declared.errors.Error.TheVariants.{InvalidUtf8AsciiStream}
-use Rattle.stream.specs.declared.sources.Ending.{Ending as Stream-ending}
+use Rattle.stream.specs.declared.sources.Ending.{Ending as StreamEnding}
 use Rattle.reader.specs.Comments.{line_comment_lem, in_comment, block_comment_lem}
 use Rattle.laws.specs.Format.{OneOf, Each, separators, plain_ends, no_plain_begins, Text, Quoted, Plain, PlainEvent, Number, EndsPlain, SlashGoesOn, Token, LineComment, Skipped, Items, Lists, StartsWith}
 use Rattle.reader.specs.Readings.{before, item_then, reading}
@@ -270,14 +270,14 @@ module _ (decides : (bs : List ℕ) → Decides (utf8 bs) (Utf8 bs)) (notation :
 
   -- from an item on, with the reading of what it left
   module _ (p : ℕ) (xs : List ℕ) (events : List Ev) (later : ℕ → List ℕ → Stream)
-      (nothing : (q : ℕ) → later q [] ≡ over Stream-ending.End)
-      (on : (q : ℕ) (ys : List ℕ) (evs : List Ev) → length ys < length xs → later q ys ≡ stream evs Stream-ending.End → Has-read q ys evs) where
+      (nothing : (q : ℕ) → later q [] ≡ over StreamEnding.End)
+      (on : (q : ℕ) (ys : List ℕ) (evs : List Ev) → length ys < length xs → later q ys ≡ stream evs StreamEnding.End → Has-read q ys evs) where
     from_item : (i : Item) (q : ℕ) (ys : List ℕ) → ItemRead i xs ys → LessBy (length xs) ys i → Forward {A = Item} p (length xs) (record { value = i; position = q; left = ys })
-        → before i (later q ys) ≡ stream events Stream-ending.End → Has-read p xs events
+        → before i (later q ys) ≡ stream events StreamEnding.End → Has-read p xs events
     from_item (token ev) q ys h less f w =
         let evs = (later q ys).events in
         let a : ev ∷ evs ≡ events = ap (λ (s : Stream). s.events) w in
-        let b : (later q ys).ending ≡ Stream-ending.End = ap (λ (s : Stream). s.ending) w in
+        let b : (later q ys).ending ≡ StreamEnding.End = ap (λ (s : Stream). s.ending) w in
         let k : Has-read q ys evs = on q ys evs less (λ i. stream evs (b i)) in
         record { lists = subst (λ vs. Lists xs vs) a (token_list ev xs ys evs h k.lists); ends = (let l : q + length ys ≤ max q limit = k.ends in omega arith) }
     from_item passed_over q ys h less f w =
@@ -288,21 +288,21 @@ module _ (decides : (bs : List ℕ) → Decides (utf8 bs) (Utf8 bs)) (notation :
         let m : length xs ≡ 0 = ap length h in
         record { lists = none_left xs events h a; ends = omega arith }
 
-    from_result : (r : Result (Done Item) Error) → WhereOk (AsItem xs) r → WhereOk (Less (length xs)) r → Goes p (length xs) r → item_then r later ≡ stream events Stream-ending.End → Has-read p xs events
+    from_result : (r : Result (Done Item) Error) → WhereOk (AsItem xs) r → WhereOk (Less (length xs)) r → Goes p (length xs) r → item_then r later ≡ stream events StreamEnding.End → Has-read p xs events
     from_result (Ok d) h less g w = from_item d.value d.position d.left h less g w
     from_result (Err f) h less g w =
-        let a : Stream-ending.Refused f ≡ Stream-ending.End = ap (λ (s : Stream). s.ending) w in
+        let a : StreamEnding.Refused f ≡ StreamEnding.End = ap (λ (s : Stream). s.ending) w in
         let i : ◌≡◌ {A = ℕ} 0 1 = cc in
         let never : ⊥ = omega arith in
         absurd never
 
-  read_within : (n p : ℕ) (xs : List ℕ) (events : List Ev) → length xs < n → reading p xs End ≡ stream events Stream-ending.End → Has-read p xs events
+  read_within : (n p : ℕ) (xs : List ℕ) (events : List Ev) → length xs < n → reading p xs End ≡ stream events StreamEnding.End → Has-read p xs events
   read_within zero p xs events l w = let never : ⊥ = omega arith in absurd never
   read_within (suc n) p xs events l w =
       from_result p xs events (λ q ys. reading q ys End) (λ q. reading_on q [] End) (λ q ys evs k v. read_within n q ys evs (omega arith) v)
       (item p xs End) (item_sound p xs End) (less_from p xs End) (adv_item p xs End) (sym (reading_on p xs End) ∙ w)
 
-  pub read_lists : (p : ℕ) (xs : List ℕ) (events : List Ev) → reading p xs End ≡ stream events Stream-ending.End → Has-read p xs events
+  pub read_lists : (p : ℕ) (xs : List ℕ) (events : List Ev) → reading p xs End ≡ stream events StreamEnding.End → Has-read p xs events
   read_lists p xs events w = read_within (suc (length xs)) p xs events (omega arith) w
 
   -- the events of any reading

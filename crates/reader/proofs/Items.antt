@@ -2,7 +2,7 @@
 use Rattle.std.proofs.Common.{◌≡◌, ℕ, ◌+◌, ◌<◌, ◌≤◌, List, [], ◌∷◌, length, Some, None, Ok, Err, Option, Result, sym, refl, ap, ◌∙◌, subst, arith}
 use Rattle.std.proofs.lemmas.Bool.Decides.{nat_tests}
 use Rattle.source.specs.Asking.{answer, rest}
-use Rattle.source.specs.declared.sources.Ending.{Ending as Source-ending}
+use Rattle.source.specs.declared.sources.Ending.{Ending as SourceEnding}
 use Rattle.source.specs.declared.sources.Ending.TheVariants.{End, Fault}
 use Rattle.stream.specs.Streams.{over, first}
 use Rattle.stream.specs.declared.errors.Error.{Error}
@@ -22,7 +22,7 @@ module _ (u v : Seen) where
   reads_item i ran =
       reading_on u.position (untaken u) (ends u)
       ∙ (ap (λ (r : Result (Done Item) Error). item_then r (λ q ys. reading q ys (ends u))) ran.0
-      ∙ ap (λ (e : Source-ending). before i (reading v.position (untaken v) e)) (sym ran.1.keeps))
+      ∙ ap (λ (e : SourceEnding). before i (reading v.position (untaken v) e)) (sym ran.1.keeps))
 
   reads_refusal : (f : Error) → Ran item u (Err f) v → reading_of u ≡ over (Ending.Refused f)
   reads_refusal f ran = reading_on u.position (untaken u) (ends u) ∙ ap (λ (r : Result (Done Item) Error). item_then r (λ q ys. reading q ys (ends u))) ran
@@ -33,13 +33,13 @@ unfolding reading_within reading
 reads_nothing p = refl
 
 -- a byte that was taken leaves less
-gave_some : (p : ℕ) (xs : List ℕ) (e : Source-ending) (c : ℕ) → Ok (Some c) ≡ step_gives p xs e → length (rest xs) < length xs
+gave_some : (p : ℕ) (xs : List ℕ) (e : SourceEnding) (c : ℕ) → Ok (Some c) ≡ step_gives p xs e → length (rest xs) < length xs
 gave_some p [] End c h = grind (arith, h)
 gave_some p [] (Fault code) c h = grind (arith, h)
 gave_some p (x ∷ xs) e c h = omega arith
 
 -- no byte is taken only at the end
-gave_none : (p : ℕ) (xs : List ℕ) (e : Source-ending) → Ok None ≡ step_gives p xs e → (rest xs ≡ []) × (e ≡ End)
+gave_none : (p : ℕ) (xs : List ℕ) (e : SourceEnding) → Ok None ≡ step_gives p xs e → (rest xs ≡ []) × (e ≡ End)
 gave_none p [] End h = (refl, refl)
 gave_none p [] (Fault code) h = grind (arith, h)
 gave_none p (x ∷ xs) e h = absurd (never (answer xs e) h)
@@ -68,5 +68,5 @@ module _ (u v : Seen) where
       let nothing : untaken v ≡ [] = st.took.leaves ∙ none.0 in
       let end : ends v ≡ End = st.took.keeps ∙ none.1 in
       let later : reading_of v ≡ over Ending.End =
-      ap (λ (xs : List ℕ). reading v.position xs (ends v)) nothing ∙ (ap (λ (e : Source-ending). reading v.position [] e) end ∙ reads_nothing v.position) in
+      ap (λ (xs : List ℕ). reading v.position xs (ends v)) nothing ∙ (ap (λ (e : SourceEnding). reading v.position [] e) end ∙ reads_nothing v.position) in
       (reads_item u v the_end (ran_then step begun_if u v v None (Ok the_end) (ran_step u v None st) (refl, record { keeps = refl; shorter = omega arith; full = st.took.full; failed = refl })), later)

@@ -2,7 +2,7 @@
 use Rattle.std.specs.Prelude.{◌≡◌, ℕ, zero, suc, ◌+◌, ◌<◌, ◌≤◌, Bool, true, false, cond, ◌||◌, List, [], ◌∷◌, ◌++◌, length, ℤ, Some, None, Ok, Err, Option, Result, ◌==◌, nat_le, refl}
 use Rattle.std.proofs.Common.{sym, subst, ◌∙◌, arith, length-append}
 use Rattle.std.proofs.lemmas.Bool.{leb-true, leb-false}
-use Rattle.source.specs.declared.sources.Ending.{Ending as Source-ending}
+use Rattle.source.specs.declared.sources.Ending.{Ending as SourceEnding}
 use Rattle.text.specs.Numbers.{number}
 use Rattle.text.specs.Utf8.{utf8}
 use Rattle.stream.specs.Streams.{Ev, Fit, EachFit, Stream}
@@ -21,7 +21,7 @@ Made P (Ok d) = P d.value
 Made P (Err f) = Unit {0}
 
 abbrev Makes : {A : Type 0} → (A → Type 0) → Run A → Type 0
-Makes P run = (p : ℕ) (xs : List ℕ) (e : Source-ending) → Made P (run p xs e)
+Makes P run = (p : ℕ) (xs : List ℕ) (e : SourceEnding) → Made P (run p xs e)
 
 made_cond : {A : Type 0} (P : A → Type 0) (b : Bool) (r s : Result (Done A) Error) → (b ≡ true → Made P r) → (b ≡ false → Made P s) → Made P (cond b r s)
 made_cond P true r s h i = h refl
@@ -31,7 +31,7 @@ made_then : {A : Type 0} (P : A → Type 0) (s : Result (Option ℕ) Error) (r :
 made_then P (Ok b) r h = h
 made_then P (Err f) r h = tt
 
-made_on : {A B : Type 0} (P : A → Type 0) (Q : B → Type 0) (r : Result (Done A) Error) (next : A → Run B) (e : Source-ending) → Made P r → ((a : A) → P a → Makes Q (next a)) → Made Q (onward r next e)
+made_on : {A B : Type 0} (P : A → Type 0) (Q : B → Type 0) (r : Result (Done A) Error) (next : A → Run B) (e : SourceEnding) → Made P r → ((a : A) → P a → Makes Q (next a)) → Made Q (onward r next e)
 made_on P Q (Ok d) next e h i = i d.value h d.position d.left e
 made_on P Q (Err f) next e h i = tt
 
@@ -150,12 +150,12 @@ fit_then (Ok d) later h i = go d.value h
     go passed_over f = i d.position d.left
     go the_end f = tt
 
-fit_within : (n p : ℕ) (xs : List ℕ) (e : Source-ending) → EachFit (reading_within n p xs e).events
+fit_within : (n p : ℕ) (xs : List ℕ) (e : SourceEnding) → EachFit (reading_within n p xs e).events
 unfolding reading_within
 fit_within zero p xs e = tt
 fit_within (suc n) p xs e = fit_then (item p xs e) (λ q ys. reading_within n q ys e) (fit_item p xs e) (λ q ys. fit_within n q ys e)
 
-pub fit_reading : (p : ℕ) (xs : List ℕ) (e : Source-ending) → EachFit (reading p xs e).events
+pub fit_reading : (p : ℕ) (xs : List ℕ) (e : SourceEnding) → EachFit (reading p xs e).events
 unfolding reading
 fit_reading p xs e = fit_within (suc (length xs)) p xs e
 

@@ -1,6 +1,6 @@
 -- The reading of a list of bytes: its events, and how they end.
 use Rattle.std.specs.Prelude.{ℕ, zero, suc, List, length, Ok, Err, Result}
-use Rattle.source.specs.declared.sources.Ending.{Ending as Source-ending}
+use Rattle.source.specs.declared.sources.Ending.{Ending as SourceEnding}
 use Rattle.stream.specs.Streams.{Stream, over, first}
 use Rattle.stream.specs.declared.errors.Error.{Error}
 use Rattle.stream.specs.declared.sources.Ending.{Ending}
@@ -19,11 +19,11 @@ item_then (Ok d) later = before d.value (later d.position d.left)
 item_then (Err f) later = over (Ending.Refused f)
 
 -- at most n items, one after another
-unfoldable pub reading_within : ℕ → ℕ → List ℕ → Source-ending → Stream
+unfoldable pub reading_within : ℕ → ℕ → List ℕ → SourceEnding → Stream
 reading_within zero p xs e = over Ending.End
 reading_within (suc n) p xs e = item_then (item p xs e) (λ q ys. reading_within n q ys e)
 
 -- The reading of the bytes not yet taken, from a position on: item after item up to the end or a refusal.
 -- Each item takes a byte at least, so there are no more items than bytes, and the end.
-unfoldable pub reading : ℕ → List ℕ → Source-ending → Stream
+unfoldable pub reading : ℕ → List ℕ → SourceEnding → Stream
 reading p xs e = reading_within (suc (length xs)) p xs e

@@ -1,6 +1,6 @@
 -- Readings, computed.
 use Rattle.std.specs.Prelude.{◌≡◌, ℕ, List, [], ◌∷◌, ◌++◌, replicate, pos, None, codes}
-use Rattle.source.specs.declared.sources.Ending.{Ending as Source-ending}
+use Rattle.source.specs.declared.sources.Ending.{Ending as SourceEnding}
 use Rattle.source.specs.declared.sources.Ending.TheVariants.{End, Fault}
 use Rattle.stream.specs.Streams.{Ev, Stream, stream}
 use Rattle.stream.specs.declared.errors.Error.{Error}

@@ -380,7 +380,7 @@ impl<S: ByteSource> EventSource for AsciiReader<S> {
 
     ghost fit = { λ x.
         let v = seen S.ByteSource x in
-        fit-unless x.failed (reading-of v) (fit-reading v.position (untaken v) (ends v)) };
+        fit_unless x.failed (reading_of v) (fit_reading v.position (untaken v) (ends v)) };
 
     fn next(&mut self, scratch: &mut [u8]) -> Result<Option<Event>, Error> {
         if scratch.len() < TEXT_BYTES {
@@ -410,7 +410,7 @@ impl<S: ByteSource> EventSource for AsciiReader<S> {
 
 // Whether a byte ends a plain token.
 fn ends_plain(c: u8) -> bool
-    ensures { result ≡ ends-plain c }
+    ensures { result ≡ ends_plain_lem c }
 {
     if c > b'=' {
         return c == b'}';

@@ -1,15 +1,15 @@
 -- Going through all events of a stream, one at a time.
-use Rattle.std.proofs.Common.{◌≡◌, ℕ, ◌+◌, ◌-◌, ◌^◌, ◌<◌, ◌≤◌, min, List, [], ◌∷◌, ◌++◌, length, take, drop, replicate, Some, None, Ok, Err, Option, Result, sym, refl, ap, ◌∙◌, subst, arith}
+use Rattle.std.proofs.Common.{◌≡◌, ℕ, ◌+◌, ◌-◌, ◌^◌, ◌≤◌, min, List, length, Some, Ok, Option, Result, sym, ap, ◌∙◌, subst, arith}
 use Rattle.stream.specs.declared.drains.Drained.{Drained}
 use Rattle.stream.specs.declared.errors.Error.{Error}
 use Rattle.stream.specs.declared.events.Event.{Event}
 use Rattle.stream.specs.declared.sources.Ending.{Ending}
 use Rattle.stream.specs.declared.sources.Ending.TheVariants.{End, Refused}
 use Rattle.stream.specs.Drains.{Drains}
-use Rattle.stream.specs.Events.{event, text_length_lem}
+use Rattle.stream.specs.Events.{text_length_lem}
 use Rattle.stream.specs.Nexts.{Next, Gives, answer_of}
-use Rattle.stream.specs.Scratch.{beyond, behind, Cleared}
-use Rattle.stream.specs.Streams.{Stream, over, first}
+use Rattle.stream.specs.Scratch.{beyond, Cleared}
+use Rattle.stream.specs.Streams.{Stream, over}
 use Rattle.stream.proofs.Zeros.{beyond_cleared, behind_same}
 
 -- u₀ and s₀ are u and s after k events

@@ -1,42 +1,19 @@
 -- Lists of events as sources.
-use Rattle.std.proofs.Common.{◌≡◌, ℕ, ◌-◌, ◌<◌, ◌≤◌, Bool, true, false, cond, leb, List, [], ◌∷◌, ◌++◌, map, length, get_or, take, drop, Some, None, Ok, Err, Option, Result, sym, refl, ap, ◌∙◌, subst, arith}
+use Rattle.std.proofs.Common.{◌≡◌, ℕ, ◌-◌, ◌<◌, ◌≤◌, Bool, cond, List, [], ◌∷◌, ◌++◌, map, length, get_or, take, drop, Some, None, Ok, Option, Result, sym, refl, ap, ◌∙◌, subst, arith}
 use Rattle.std.proofs.lemmas.Slice.{first_rest}
-use Rattle.std.proofs.lemmas.Bool.{leb-true, le-leb}
-use Rattle.text.specs.Utf8.{utf8}
+use Rattle.std.proofs.lemmas.Bool.{le-leb}
 use Rattle.stream.specs.declared.errors.Error.{Error}
 use Rattle.stream.specs.declared.events.Event.{Event}
 use Rattle.stream.specs.declared.lists.ListedEvent.{ListedEvent}
 use Rattle.stream.specs.declared.sources.Ending.{Ending}
 use Rattle.stream.specs.Events.{event, text_length_lem}
+use Rattle.stream.specs.Fits.{fit_event}
 use Rattle.stream.specs.Lists.{listed, StandsFor, text_of, unless_long, unfit, unless, one_more, fit_part}
 use Rattle.stream.specs.Nexts.{Next, answer_of}
 use Rattle.stream.specs.Scratch.{behind, Cleared}
 use Rattle.stream.specs.Streams.{Ev, Stream, stream, over, first, Fit, EachFit}
 use Rattle.stream.proofs.Nexts.{next_over}
 use Rattle.stream.proofs.Zeros.{put_front}
-
--- the tests of `unfit`, passed
-passed : (n : ℕ) (bs : List ℕ) (b : Bool) (o : Option Error) → leb (length bs) 1024 ≡ b → cond b o (Some (Error.TextTooLong n)) ≡ None → (length bs ≤ 1024) × (o ≡ None)
-passed n bs true o is none = (leb-true (length bs) 1024 is, none)
-passed n bs false o is none = let never : ◌≡◌ {A = ℕ} 0 1 = cc in absurd (omega arith)
-
-text_passed : (n : ℕ) (b : Bool) → cond b None (Some (Error.InvalidUtf8AsciiStream n)) ≡ None → b ≡ true
-text_passed n true none = refl
-text_passed n false none = let never : ◌≡◌ {A = ℕ} 0 1 = cc in absurd (omega arith)
-
--- an event that is not refused is fit
-pub fit_event : (n : ℕ) (ev : Ev) → unfit n ev ≡ None → Fit ev
-fit_event n (Ev.StartArray c) none = tt
-fit_event n (Ev.StartDictionary c) none = tt
-fit_event n Ev.EndCollection none = tt
-fit_event n (Ev.Boolean b) none = tt
-fit_event n (Ev.Data bs) none = (passed n bs (leb (length bs) 1024) None refl none).0
-fit_event n (Ev.Integer i) none = tt
-fit_event n (Ev.Real x) none = tt
-fit_event n (Ev.String bs) none =
-    let both = passed n bs (leb (length bs) 1024) (cond (utf8 bs) None (Some (Error.InvalidUtf8AsciiStream n))) refl none in
-    (both.0, text_passed n (utf8 bs) both.1)
-fit_event n (Ev.Uid u) none = tt
 
 pub fit_text : (ev : Ev) → Fit ev → length (text_of ev) ≤ 1024
 fit_text (Ev.StartArray c) h = omega arith
@@ -48,15 +25,6 @@ fit_text (Ev.Integer i) h = omega arith
 fit_text (Ev.Real x) h = omega arith
 fit_text (Ev.String bs) h = h.0
 fit_text (Ev.Uid u) h = omega arith
-
--- whatever stands in the list, what it means is fit
-pub part_fit : (n : ℕ) (evs : List Ev) (end : Ending) → EachFit (fit_part n evs end).events
-part_fit n [] end = tt
-part_fit n (ev ∷ evs) end = go (unfit n ev) refl (part_fit (one_more n) evs end)
-  where
-    go : (o : Option Error) → unfit n ev ≡ o → EachFit (fit_part (one_more n) evs end).events → EachFit (unless o (first ev (fit_part (one_more n) evs end))).events
-    go None none rest = (fit_event n ev none, rest)
-    go (Some e) is rest = tt
 
 -- an event that is fit is not refused
 short_passes : (n : ℕ) (bs : List ℕ) (o : Option Error) → length bs ≤ 1024 → o ≡ None → unless_long n bs o ≡ None

@@ -2,7 +2,6 @@
 use Rattle.std.proofs.Common.{◌≡◌, ℕ, ◌≤◌, List, ◌++◌, length, take, Some, Ok, sym, refl, ap, ◌∙◌, arith}
 use Rattle.stream.specs.declared.events.Event.{Event}
 use Rattle.stream.specs.declared.events.Event.TheVariants.{StartArray, StartDictionary, EndCollection, Boolean, Data, Integer, Real, String, Uid}
-use Rattle.stream.specs.declared.kinds.EventKind.{EventKind}
 use Rattle.stream.specs.declared.sources.Ending.{Ending}
 use Rattle.stream.specs.declared.sources.Ending.TheVariants.{End, Refused}
 use Rattle.stream.specs.Events.{event, text_length_lem, kind_of}

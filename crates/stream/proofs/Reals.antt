@@ -1,5 +1,5 @@
 -- Floats that are one value.
-use Rattle.std.proofs.Common.{◌≡◌, ℕ, Bool, true, false, T, eqb, Decides, sym, refl, ap, ◌∙◌, subst, true≢false}
+use Rattle.std.proofs.Common.{◌≡◌, ℕ, Bool, true, T, eqb, Decides, sym, refl, ap, ◌∙◌, subst, true≢false}
 use lib.Ieee.{Float, nan, inf, fin, is_nan, to_bits, of_bits, binary64, fits}
 use lib.Ieee.Bits.{of_bits-to_bits}
 use Rattle.std.proofs.lemmas.Bool.{eqb-true, eq-eqb}

@@ -1,6 +1,8 @@
 pub mod Drains
+pub mod Equals
 pub mod Errors
 pub mod Events
+pub mod Fits
 pub mod Kinds
 pub mod Labels
 pub mod Lists

@@ -1,5 +1,5 @@
 -- What a source over a list of events means.
-use Rattle.std.specs.Prelude.{◌≡◌, ℕ, ◌+◌, min, Bool, cond, List, [], ◌∷◌, map, length, take, pos, Some, None, Option, nat_le}
+use Rattle.std.specs.Prelude.{◌≡◌, ℕ, ◌+◌, min, cond, List, [], ◌∷◌, map, length, take, pos, Some, None, Option, nat_le}
 use Rattle.text.specs.Utf8.{utf8}
 use Rattle.stream.specs.declared.errors.Error.{Error}
 use Rattle.stream.specs.declared.events.Event.{Event}

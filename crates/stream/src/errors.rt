@@ -1,9 +1,8 @@
 // Why a call is refused: one number for each reason, and what it carries.
 ghost use Rattle.std.specs.Prelude.{◌≡◌, Some, Decides};
 ghost use Rattle.stream.specs.Errors.{number_of, position_of, code_of, expected_of, found_of, name_of, refusal_text};
-ghost use Rattle.std.specs.Cmp.Rules.{comparing};
-ghost use Rattle.std.proofs.Common.{rules};
-ghost use Rattle.std.specs.Cmp as Keys;
+ghost use Rattle.std.specs.Cmp.{partial_equiv_from_equiv};
+ghost use Rattle.stream.specs.Equals.{same_error, error_laws};
 
 use crate::kinds::EventKind;
 use crate::labels::Labelled;
@@ -158,11 +157,14 @@ impl Error {
 }
 
 impl PartialEq for Error {
-    ghost equals = { λ x y r. Decides r (x ≡ y) };
+    ghost eq = { same_error };
 
-    ghost laws = { Keys.partial_equiv_from_equiv (Prim.search (comparing, rules)) };
+    ghost laws = { partial_equiv_from_equiv error_laws };
 
-    fn eq(&self, other: &Error) -> bool {
+    fn eq(&self, other: &Error) -> bool
+        ensures value { result ≡ same_error self.now other.now }
+        ensures same { Decides result (self.now ≡ other.now) }
+    {
         self.number() == other.number()
             && self.code() == other.code()
             && self.expected() == other.expected()
@@ -172,7 +174,7 @@ impl PartialEq for Error {
 }
 
 impl Eq for Error {
-    ghost laws = { Prim.search (comparing, rules) };
+    ghost laws = { error_laws };
 }
 
 impl fmt::Display for Error {

@@ -1,9 +1,8 @@
 // The events that spell a property list, one after another.
 ghost use Rattle.std.specs.Prelude.{◌≡◌, Decides};
 ghost use Rattle.stream.specs.Events.{kind_of, text_length_lem};
-ghost use Rattle.std.specs.Cmp.Rules.{comparing};
-ghost use Rattle.std.proofs.Common.{rules};
-ghost use Rattle.std.specs.Cmp as Keys;
+ghost use Rattle.std.specs.Cmp.{partial_equiv_from_equiv};
+ghost use Rattle.stream.specs.Equals.{same_event, event_laws};
 
 use crate::kinds::EventKind;
 use crate::uid::Uid;
@@ -66,11 +65,14 @@ fn same_real(a: f64, b: f64) -> bool
 
 // Two events are equal where they are the same. So a Real that is not a number equals itself, and 0.0 and -0.0 are two.
 impl PartialEq for Event {
-    ghost equals = { λ x y r. Decides r (x ≡ y) };
+    ghost eq = { same_event };
 
-    ghost laws = { Keys.partial_equiv_from_equiv (Prim.search (comparing, rules)) };
+    ghost laws = { partial_equiv_from_equiv event_laws };
 
-    fn eq(&self, other: &Event) -> bool {
+    fn eq(&self, other: &Event) -> bool
+        ensures value { result ≡ same_event self.now other.now }
+        ensures same { Decides result (self.now ≡ other.now) }
+    {
         match *self {
             Event::StartArray(a) => matches!(*other, Event::StartArray(b) if a == b),
             Event::StartDictionary(a) => matches!(*other, Event::StartDictionary(b) if a == b),
@@ -86,5 +88,5 @@ impl PartialEq for Event {
 }
 
 impl Eq for Event {
-    ghost laws = { Prim.search (comparing, rules) };
+    ghost laws = { event_laws };
 }

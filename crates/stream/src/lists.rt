@@ -1,5 +1,6 @@
 // A source over a lent list of events.
 ghost use Rattle.std.specs.Prelude.{◌≡◌, map};
+ghost use Rattle.stream.specs.Fits.{part_fit};
 ghost use Rattle.stream.specs.Lists.{listed, StandsFor, text_of, unfit, fit_part, meaning};
 ghost use Rattle.stream.specs.Streams.{EachFit, stream};
 
@@ -98,6 +99,8 @@ impl<'a> EventList<'a> {
 
 impl EventSource for EventList<'_> {
     ghost means = { meaning };
+
+    ghost fit = { λ x. part_fit x.given (map listed x.events.now) x.ending };
 
     fn next(&mut self, scratch: &mut [u8]) -> Result<Option<Event>, Error> {
         if scratch.len() < TEXT_BYTES {

@@ -1,10 +1,10 @@
 -- The syntax of UTF-8 describes the encodings of scalar values, and the standard library's predicate says the same.
-use Rattle.std.proofs.Common.{◌≡◌, ℕ, suc, ◌+◌, ◌-◌, ◌*◌, ◌/◌, ◌%◌, ◌<◌, ◌≤◌, Bool, true, false, cond, ◌&&◌, ◌||◌, ltb, leb, ◌⊎◌, List, [], ◌∷◌, ◌++◌, IsUtf8 as Std-utf8, sym, refl, ap, ◌∙◌, subst, inl, inr, ⊎_elim, arith}
+use Rattle.std.proofs.Common.{◌≡◌, ℕ, suc, ◌+◌, ◌-◌, ◌*◌, ◌/◌, ◌<◌, ◌≤◌, true, ◌&&◌, ltb, leb, ◌⊎◌, List, [], ◌∷◌, ◌++◌, IsUtf8 as StdUtf8, sym, refl, ◌∙◌, subst, inl, inr, ⊎_elim, arith}
 use lib.Utf8 as Std
 use Rattle.std.proofs.lemmas.Bool.{le-leb, lt-leb, leb-true, and_parts, and_from, or_cases, or_left, or_right, cases_lt}
 use Rattle.std.proofs.lemmas.Bool.Decides.{nat_tests}
 use Rattle.text.proofs.Grammar.{inside_parts, inside_from}
-use Rattle.text.specs.Utf8.{Range, ◌to◌, tail, inside, utf8_char, OfRow, none, more, OfTable, here, there, Utf8, empty, then, scalar, scalars, low_six_lem, encode, encodes, EncodesSome, BothWays}
+use Rattle.text.specs.Utf8.{tail, inside, utf8_char, none, more, OfTable, here, there, Utf8, empty, then, scalar, scalars, low_six_lem, encode, encodes, EncodesSome, BothWays}
 
 -- scalar values by their numbers
 abbrev pub Scalar : ℕ → Type 0
@@ -210,7 +210,7 @@ encodes_same : (cs : List ℕ) → Std.encodes cs ≡ encodes cs
 encodes_same [] = refl
 encodes_same (c ∷ cs) = λ k. encode_same c k ++ encodes_same cs k
 
-pub library_agrees : (bs : List ℕ) → BothWays (Utf8 bs) (Std-utf8 bs)
+pub library_agrees : (bs : List ℕ) → BothWays (Utf8 bs) (StdUtf8 bs)
 library_agrees bs = (
   λ u. let m = encodes_from u in (m.0, (scalars_same m.0 ∙ m.1, encodes_same m.0 ∙ m.2)),
   λ m. (encoding_agrees bs).1 (m.0, sym (scalars_same m.0) ∙ m.1.0, sym (encodes_same m.0) ∙ m.1.1),

@@ -1,9 +1,9 @@
 -- The test for UTF-8 answers what the syntax says.
 use Rattle.std.proofs.Common.{◌≡◌, ℕ, suc, ◌<◌, ◌≤◌, Bool, true, false, cond, ◌&&◌, leb, List, [], ◌∷◌, ◌++◌, Some, None, Decides, Option, sym, refl, ap, ◌∙◌, subst, arith}
 use Rattle.std.proofs.lemmas.List.{append_assoc}
-use Rattle.std.proofs.lemmas.Bool.{le-leb, lt-leb, leb-true, and_parts, and_from, and_right, false≢true}
+use Rattle.std.proofs.lemmas.Bool.{le-leb, lt-leb, leb-true, and_parts, and_from, false≢true}
 use Rattle.text.proofs.Scans.{goes_by}
-use Rattle.text.specs.Utf8.{Range, ◌to◌, tail, inside, utf8_char, behind, step, whole, goes_on, utf8, OfRow, none, more, OfTable, here, there, Utf8, empty, then}
+use Rattle.text.specs.Utf8.{Range, ◌to◌, inside, utf8_char, behind, goes_on, utf8, OfRow, none, more, OfTable, here, there, Utf8, empty, then}
 
 pub inside_parts : (low high b : ℕ) → inside (low to high) b ≡ true → (low ≤ b) × (b ≤ high)
 inside_parts low high b e =

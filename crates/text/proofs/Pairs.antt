@@ -1,9 +1,9 @@
 -- Units of UTF-16 decode to what they encode.
 use Rattle.std.proofs.Common.{◌≡◌, ℕ, ◌+◌, ◌-◌, ◌*◌, ◌/◌, ◌%◌, ◌<◌, ◌≤◌, Bool, true, false, cond, ◌&&◌, leb, ◌⊎◌, List, [], ◌∷◌, length, get_or, Some, None, Option, sym, refl, ap, ◌∙◌, inl, inr, arith}
-use Rattle.std.proofs.lemmas.Bool.{le-leb, lt-leb, leb-true, and_parts, and_from, and_cases, and_left, and_right, leb-false, cases_lt}
+use Rattle.std.proofs.lemmas.Bool.{le-leb, lt-leb, leb-true, and_parts, and_cases, leb-false, cases_lt}
 use Rattle.text.proofs.Encodings.{Scalar, scalar_parts, scalar_low, scalar_high}
 use Rattle.text.specs.Utf16.{surrogate, high_surrogate, low_surrogate, decode, units, listed, Utf16Agrees}
-use Rattle.text.specs.Utf8.{scalar, BothWays}
+use Rattle.text.specs.Utf8.{scalar}
 
 Agree : ℕ → Option ℕ → ℕ → Type 0
 Agree first second c = (scalar c ≡ true) × (units c ≡ listed first second)

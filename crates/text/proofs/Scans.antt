@@ -1,9 +1,9 @@
 -- The steps of the scan for UTF-8.
-use Rattle.std.proofs.Common.{◌≡◌, ℕ, zero, suc, ◌+◌, ◌-◌, ◌<◌, ◌≤◌, Bool, true, false, cond, ◌&&◌, eqb, leb, List, [], ◌∷◌, length, get_or, drop, replicate, Some, None, Option, sym, refl, ap, ◌∙◌, subst, not-suc-le-zero, arith}
+use Rattle.std.proofs.Common.{◌≡◌, ℕ, zero, suc, ◌+◌, ◌-◌, ◌<◌, ◌≤◌, Bool, false, eqb, List, length, get_or, drop, Some, None, Option, sym, refl, ap, ◌∙◌, subst, arith}
 use Rattle.std.proofs.lemmas.List.{at_drop_more, at_drop_all}
 use Rattle.std.proofs.lemmas.Bool.{le-leb, ne_eqb}
 use Rattle.text.specs.Due.{due_ranges}
-use Rattle.text.specs.Utf8.{Range, ◌to◌, tail, inside, step, whole, goes_on}
+use Rattle.text.specs.Utf8.{Range, step, whole, goes_on}
 
 -- a byte in the range that was due leaves one less due
 less : (n low high b : ℕ) → low ≤ b → b ≤ high → Some (due_ranges n 0x80 0xBF) ≡ step (due_ranges (suc n) low high) b

@@ -1,11 +1,11 @@
 -- What is UTF-8, for those who put texts together.
-use Rattle.std.proofs.Common.{◌≡◌, ℕ, ◌<◌, ◌≤◌, Bool, true, ◌⊎◌, List, [], ◌∷◌, ◌++◌, length, sym, refl, ap, ◌∙◌, subst, inl, inr, arith}
+use Rattle.std.proofs.Common.{◌≡◌, ℕ, ◌<◌, ◌≤◌, true, ◌⊎◌, List, [], ◌∷◌, ◌++◌, length, sym, ap, ◌∙◌, inl, inr, arith}
 use Rattle.std.proofs.lemmas.List.{append-nil}
 use Rattle.std.proofs.lemmas.Bool.{cases_lt}
 use Rattle.std.specs.List.{AllByRecursion as All}
 use Rattle.text.proofs.Encodings.{encode_1, encode_2, encode_3, encode_4, char_encode, scalar_low}
 use Rattle.text.proofs.Grammar.{append_from, syntax_from, test_from}
-use Rattle.text.specs.Utf8.{Utf8, empty, then, utf8, scalar, encode}
+use Rattle.text.specs.Utf8.{empty, then, utf8, scalar, encode}
 
 -- behind UTF-8, the whole is UTF-8 exactly where what follows is
 pub utf8_append : (a b : List ℕ) → utf8 a ≡ true → utf8 (a ++ b) ≡ utf8 b

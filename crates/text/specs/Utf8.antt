@@ -1,5 +1,5 @@
 -- UTF-8, as RFC 3629 defines it: the syntax of its section 4, and the encoding of its section 3.
-use Rattle.std.specs.Prelude.{◌≡◌, ℕ, ◌+◌, ◌/◌, ◌%◌, ◌^◌, ◌≤◌, Bool, true, false, cond, ◌&&◌, ◌||◌, List, [], ◌∷◌, ◌++◌, length, take, drop, Some, None, IsUtf8 as Std-utf8, Decides, Option, nat_le}
+use Rattle.std.specs.Prelude.{◌≡◌, ℕ, ◌+◌, ◌/◌, ◌%◌, ◌^◌, ◌≤◌, Bool, true, false, cond, ◌&&◌, ◌||◌, List, [], ◌∷◌, ◌++◌, length, take, drop, Some, None, IsUtf8 as StdUtf8, Decides, Option, nat_le}
 
 -- A range of bytes, with both ends: `0xC2 to 0xDF` is the RFC's %xC2-DF.
 pub data Range : Type 0 where
@@ -99,7 +99,7 @@ BothWays P Q = (P → Q) × (Q → P)
 pub record Utf8Agrees : Type 0 where
   pub test : (bs : List ℕ) → Decides (utf8 bs) (Utf8 bs)
   pub encoding : (bs : List ℕ) → BothWays (Utf8 bs) (EncodesSome bs)
-  pub library : (bs : List ℕ) → BothWays (Utf8 bs) (Std-utf8 bs)
+  pub library : (bs : List ℕ) → BothWays (Utf8 bs) (StdUtf8 bs)
 
 -- What texts are put together from.
 pub record Utf8Laws : Type 0 where

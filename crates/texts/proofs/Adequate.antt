@@ -1,13 +1,10 @@
 -- What text_of says where every block is 24 bytes wide.
-use Rattle.std.proofs.Common.{◌≡◌, ℕ, zero, suc, ◌+◌, ◌-◌, ◌*◌, ◌/◌, ◌<◌, ◌≤◌, min, ◌⊎◌, List, [], ◌∷◌, ◌++◌, map, length, get_or, take, drop, set, Some, None, Option, sym, refl, ap, ◌∙◌, subst, inl, inr, arith, length-set}
-use lib.ListN.{length-map}
-use Rattle.std.proofs.lemmas.List.{length-append, length-take-le, take_all, get_or-map}
+use Rattle.std.proofs.Common.{◌≡◌, ℕ, zero, suc, ◌-◌, ◌<◌, ◌≤◌, min, ◌⊎◌, List, [], ◌∷◌, ◌++◌, length, take, sym, refl, ap, ◌∙◌, inl, inr, arith}
+use Rattle.std.proofs.lemmas.List.{length-take-le, take_all}
 use Rattle.std.proofs.lemmas.Bool.Decides.{nat_tests}
 use Rattle.std.specs.List.{flat_map}
-use Rattle.cells.specs.Chains.{occ}
 use Rattle.cells.proofs.Occs.{occ_here}
-use Rattle.texts.specs.declared.cell.TextCell.{TextCell}
-use Rattle.texts.specs.Texts.{at, front, text_of, cells_for, TextIs}
+use Rattle.texts.specs.Texts.{at, front, text_of, TextIs}
 use Rattle.texts.proofs.Reading.{front_take, text_nil, text_cons}
 
 whole : (m : ℕ) → (24 ≤ m) ⊎ (m < 24)

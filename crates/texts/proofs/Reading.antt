@@ -3,7 +3,7 @@ use Rattle.std.proofs.Common.{◌≡◌, ℕ, zero, suc, ◌+◌, ◌-◌, ◌/�
 use mathlib.Core.Logic.{∥∥₁_elim, ∥∥₁_map}
 use native.Mathlib.Bridge.{le_prop}
 use lib.ListN.{length-map}
-use Rattle.std.proofs.lemmas.List.{ext_get_or, length-drop, get_or-drop, get_or-take, get_or_append_left, get_or-append_right, length-take-le, length-append, take_at, drop_all, append_assoc, append-nil, get_or-map, take-append-drop}
+use Rattle.std.proofs.lemmas.List.{ext_get_or, length-drop, get_or-drop, get_or-take, get_or_append_left, get_or-append_right, length-take-le, length-append, drop_all, append_assoc, append-nil, get_or-map, take-append-drop}
 use Rattle.cells.specs.Chains.{Chain, rest}
 use Rattle.cells.proofs.Links.{chain_some, chain_none}
 use Rattle.texts.specs.declared.cell.TextCell.{TextCell}

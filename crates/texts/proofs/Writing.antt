@@ -1,9 +1,9 @@
 -- A text written from its last block to its first.
-use Rattle.std.proofs.Common.{◌≡◌, ℕ, zero, suc, ◌+◌, ◌-◌, ◌*◌, ◌/◌, ◌<◌, ◌≤◌, min, ◌≢◌, ◌⊎◌, List, [], ◌∷◌, ◌++◌, map, length, get_or, take, drop, set, Some, None, Option, sym, refl, ap, ◌∙◌, subst, inl, inr, arith, length-set, get_or-set_other, get_or-set_same}
+use Rattle.std.proofs.Common.{◌≡◌, ℕ, zero, suc, ◌+◌, ◌-◌, ◌*◌, ◌/◌, ◌<◌, ◌≤◌, min, ◌≢◌, ◌⊎◌, List, [], ◌∷◌, ◌++◌, length, get_or, take, drop, set, Some, None, Option, sym, refl, ap, ◌∙◌, subst, inl, inr, arith, length-set, get_or-set_other, get_or-set_same}
 use mathlib.Core.Logic.{∥∥₁_elim, ∥∥₁_map}
 use native.Mathlib.Bridge.{le_prop}
 use lib.ListN.{length-map}
-use Rattle.std.proofs.lemmas.List.{map-set, get_or-map, get_or_append_left, length-append, take-append-drop, drop-drop, drop_all, length-take-le, length-drop}
+use Rattle.std.proofs.lemmas.List.{map-set, get_or_append_left, length-append, take-append-drop, drop-drop, drop_all, length-take-le, length-drop}
 use Rattle.std.proofs.lemmas.Bool.Decides.{nat_tests}
 use Rattle.cells.specs.declared.frees.FreeList.{FreeList}
 use Rattle.cells.specs.Chains.{Chain, rest, occ, Once}
@@ -12,7 +12,7 @@ use Rattle.cells.proofs.Occs.{occ_here}
 use Rattle.cells.proofs.Links.{chain_give, once_apart}
 use Rattle.cells.proofs.Giving.{free_rest, free_agree, free_some, free_none}
 use Rattle.texts.specs.declared.cell.TextCell.{TextCell}
-use Rattle.texts.specs.Texts.{at, blank, links, cells_for, front, text_of, Spans, Holds, Wrote, Answered}
+use Rattle.texts.specs.Texts.{at, blank, links, front, text_of, Wrote, Answered}
 use Rattle.texts.proofs.Reading.{front_is, text_nil, text_cons}
 
 -- Cells that agree where the chain goes hold the same text.

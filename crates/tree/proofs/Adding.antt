@@ -1,21 +1,21 @@
 -- A new tree of one node.
-use Rattle.std.proofs.Common.{◌≡◌, ℕ, ◌+◌, ◌-◌, ◌<◌, ◌≤◌, ◌≢◌, ◌⊎◌, List, [], ◌∷◌, ◌++◌, map, length, get_or, set, Some, None, Option, sym, refl, ap, ◌∙◌, subst, inl, inr, arith, length-set, get_or-set_other, get_or-set_same}
+use Rattle.std.proofs.Common.{◌≡◌, ℕ, ◌+◌, ◌-◌, ◌<◌, ◌≤◌, List, [], ◌∷◌, length, get_or, set, Some, None, Option, sym, refl, ap, ◌∙◌, subst, inl, inr, arith, length-set, get_or-set_same}
 use mathlib.Core.Logic.{∥∥₁_elim, ∥∥₁_map}
 use native.Mathlib.Bridge.{le_prop}
 use lib.ListN.{length-map}
 use Rattle.cells.specs.declared.frees.FreeList.{FreeList}
-use Rattle.cells.specs.Chains.{Chain, occ, Once, first, rest}
+use Rattle.cells.specs.Chains.{Chain, occ, first, rest}
 use Rattle.cells.specs.Frees.{Free}
-use Rattle.cells.proofs.Occs.{occ_here, occ_append, some_or_none}
+use Rattle.cells.proofs.Occs.{occ_here, some_or_none}
 use Rattle.cells.proofs.Giving.{free_rest, free_agree, free_some, free_none, free_below}
 use Rattle.texts.specs.declared.cell.TextCell.{TextCell}
-use Rattle.texts.specs.Texts.{Holds, Wrote, links as text-links}
+use Rattle.texts.specs.Texts.{Holds, Wrote, links as text_links}
 use Rattle.tree.specs.declared.arrays.Arrays.{Arrays}
 use Rattle.tree.specs.declared.nodes.Node.{Node}
 use Rattle.tree.specs.declared.nodes.Content.{Content}
-use Rattle.tree.specs.Trees.{Trees, Label, nil, node, nodes_of, texts_of, first_of, at, links, blank, shown, Row, Roots}
-use Rattle.tree.specs.Models.{Model, Represents, Sound}
-use Rattle.tree.proofs.Frames.{Agree, agree_set, row_agree, roots_agree, roots_texts, row_texts, link_at}
+use Rattle.tree.specs.Trees.{Trees, Label, nil, node, nodes_of, texts_of, at, links, blank, shown}
+use Rattle.tree.specs.Models.{Model, Sound}
+use Rattle.tree.proofs.Frames.{Agree, agree_set, roots_agree, roots_texts, link_at}
 use Rattle.tree.proofs.RowFacts.{row_below, roots_below, row_texts_below, roots_texts_below, text_occ_node}
 
 -- Links of nodes that agree on some cells.
@@ -55,7 +55,7 @@ model_texts_apart ns nl cs tl todo w ts fs gs m = record {
   where
     inside : (i : ℕ) → 0 < occ i gs + (occ i (texts_of w) + occ i (texts_of ts)) → i < 1024
     inside i p = elim (some_or_none (occ i gs)) [
-      | inl a ↦ omega (arith, free_below (text-links cs) tl gs m.texts i a, length-map cs (λ (x : TextCell). x.next), m.wide)
+      | inl a ↦ omega (arith, free_below (text_links cs) tl gs m.texts i a, length-map cs (λ (x : TextCell). x.next), m.wide)
       | inr a ↦ elim (some_or_none (occ i (texts_of w))) [
         | inl b ↦ omega (arith, row_texts_below ns cs todo w None m.row i b, m.wide)
         | inr b ↦ omega (arith, roots_texts_below ns cs ts m.roots i (omega arith), m.wide)
@@ -82,7 +82,7 @@ model_added ns nl nl' cs ds tl tl' ts fs gs is left n up content bytes head x e 
     let no-free : occ n (rest fs) ≡ 0 = omega (arith, a.one n, occs n, occ_here n (rest fs)) in
     let no-tree : occ n (nodes_of ts) ≡ 0 = omega (arith, a.one n, occs n, occ_here n (rest fs)) in
     let b = model_texts_apart ns nl cs tl None nil ts fs gs m in
-    let top : head ≡ first is = chain_head (text-links ds) head is w.holds.spans.chain in
+    let top : head ≡ first is = chain_head (text_links ds) head is w.holds.spans.chain in
     let here : at ms n ≡ x = get_or-set_same ns n x blank lt in
     let node_is : x ≡ shown None l nil = y ∙ ap (λ (h : Option ℕ). record { next = None; up = up; first = None; last = None; count = 0; text = h; length = length bytes; content = content }) top in
     let next : (at ms n).next ≡ None = ap (λ (z : Node). z.next) (here ∙ node_is) in
@@ -101,7 +101,7 @@ model_added ns nl nl' cs ds tl tl' ts fs gs is left n up content bytes head x e 
       text_once = λ i lt'. omega (arith, m.text_once i lt', w.shared i, text_occ_node i n l nil ts);
     }
 
-pub sound_texts : (a : Arrays) → Sound a → ∥ ((gs : List ℕ) × Free (text-links a.texts) a.free_texts gs) ∥₁
+pub sound_texts : (a : Arrays) → Sound a → ∥ ((gs : List ℕ) × Free (text_links a.texts) a.free_texts gs) ∥₁
 sound_texts a s = ∥∥₁_map s (λ x. (x.1.1, x.1.2.texts))
 
 pub sound_first : (a : Arrays) (i : ℕ) → a.free_nodes.first ≡ Some i → Sound a → (i < length a.nodes) × (0 < a.free_nodes.count)

@@ -1,12 +1,12 @@
 -- Arrays whose cells are all free.
-use Rattle.std.proofs.Common.{◌≡◌, ℕ, zero, suc, ◌+◌, ◌<◌, List, [], ◌∷◌, map, length, get_or, replicate, None, sym, refl, ap, ◌∙◌, arith}
+use Rattle.std.proofs.Common.{◌≡◌, ℕ, zero, suc, List, [], ◌∷◌, map, length, get_or, replicate, None, sym, refl, ap, ◌∙◌, arith}
 use lib.ListN.{length-map}
 use Rattle.cells.specs.declared.frees.FreeList.{FreeList}
-use Rattle.cells.specs.Chains.{down, occ}
+use Rattle.cells.specs.Chains.{down}
 use Rattle.cells.specs.Frees.{Free}
 use Rattle.cells.proofs.Downs.{occ_down}
 use Rattle.texts.specs.declared.cell.TextCell.{TextCell}
-use Rattle.texts.specs.Texts.{links as text-links}
+use Rattle.texts.specs.Texts.{links as text_links}
 use Rattle.tree.specs.declared.nodes.Node.{Node}
 use Rattle.tree.specs.declared.nodes.Content.TheVariants.{Free as Unused}
 use Rattle.tree.specs.Trees.{nil, at, links, blank}
@@ -27,7 +27,7 @@ pub blank_at : (n i : ℕ) → (at (replicate n blank) i).content ≡ Unused
 blank_at n i = ap (λ (x : Node). x.content) (getD_same n blank i)
 
 pub model_new : (was ns : List Node) (nl : FreeList) (were cs : List TextCell) (tl : FreeList) → length was ≡ 512 → length were ≡ 1024 → ((i : ℕ) → (at was i).content ≡ Unused)
-    → Free (links ns) nl (down (length was)) → map unlinked ns ≡ map unlinked was → Free (text-links cs) tl (down (length were)) → map (λ (c : TextCell). c.bytes) cs ≡ map (λ (c : TextCell). c.bytes) were
+    → Free (links ns) nl (down (length was)) → map unlinked ns ≡ map unlinked was → Free (text_links cs) tl (down (length were)) → map (λ (c : TextCell). c.bytes) cs ≡ map (λ (c : TextCell). c.bytes) were
     → Model ns nl cs tl None nil nil (down (length was)) (down (length were))
 model_new was ns nl were cs tl e f unused free loads texts bytes =
     let block : TextCell → List ℕ = λ c. c.bytes in

@@ -1,17 +1,15 @@
 -- What is free, and what the trees cost.
-use Rattle.std.proofs.Common.{◌≡◌, ℕ, ◌+◌, ◌<◌, List, [], ◌∷◌, ◌++◌, length, Some, None, Option, refl, ap, ◌∙◌, arith, length-append}
+use Rattle.std.proofs.Common.{◌≡◌, ℕ, ◌+◌, List, ◌++◌, length, None, Option, refl, ap, ◌∙◌, arith, length-append}
 use lib.ListN.{length-map}
-use Rattle.cells.specs.declared.frees.FreeList.{FreeList}
-use Rattle.cells.specs.Chains.{occ}
 use Rattle.cells.proofs.Tallies.{shared_out}
 use Rattle.cells.proofs.Giving.{free_below}
 use Rattle.texts.specs.declared.cell.TextCell.{TextCell}
-use Rattle.texts.specs.Texts.{cells_for, links as text-links}
+use Rattle.texts.specs.Texts.{cells_for, links as text_links}
 use Rattle.tree.specs.declared.arrays.Arrays.{Arrays}
 use Rattle.tree.specs.declared.nodes.Node.{Node}
 use Rattle.tree.specs.Trees.{Trees, nil, node, nodes_of, texts_of, first_of, at, links, Row, Roots}
 use Rattle.tree.specs.Costs.{node_cost, text_cost}
-use Rattle.tree.specs.Models.{Model, Represents}
+use Rattle.tree.specs.Models.{Represents}
 use Rattle.tree.proofs.RowFacts.{roots_below, roots_texts_below}
 
 nodes_cost : (ts : Trees) → length (nodes_of ts) ≡ node_cost ts
@@ -54,7 +52,7 @@ free_counts a ts rep =
       ),
       counted (text_cost ts) (roots_cost ns cs ts m.roots) m.texts.counted
           (shared_out 1024 rep.1 (texts_of ts)
-          (λ i p. omega (arith, free_below (text-links cs) a.free_texts rep.1 m.texts i p, length-map cs (λ (x : TextCell). x.next), m.wide))
+          (λ i p. omega (arith, free_below (text_links cs) a.free_texts rep.1 m.texts i p, length-map cs (λ (x : TextCell). x.next), m.wide))
           (λ i p. omega (arith, roots_texts_below ns cs ts m.roots i p, m.wide))
           (λ i lt. omega (arith, m.text_once i lt))),
     )

@@ -1,13 +1,13 @@
 -- A pair found along a row.
-use Rattle.std.proofs.Common.{◌≡◌, ℕ, zero, suc, ◌+◌, ◌<◌, ◌≤◌, Bool, true, false, cond, ◌&&◌, eqb, List, [], ◌∷◌, ◌++◌, length, Some, None, Decides, Option, sym, refl, ap, ◌∙◌, subst, arith, eq-eqb, eqb-true}
+use Rattle.std.proofs.Common.{◌≡◌, ℕ, zero, suc, ◌+◌, ◌<◌, ◌≤◌, Bool, true, false, cond, ◌&&◌, eqb, List, [], ◌∷◌, length, Some, None, Decides, Option, sym, refl, ap, ◌∙◌, subst, arith, eq-eqb, eqb-true}
 use mathlib.Core.Logic.{∥∥₁_elim, ∥∥₁_map}
 use native.Mathlib.Bridge.{le_prop}
-use Rattle.cells.specs.Chains.{occ, Once, first}
+use Rattle.cells.specs.Chains.{occ, Once}
 use Rattle.cells.proofs.Occs.{occ_append}
 use Rattle.texts.specs.declared.cell.TextCell.{TextCell}
 use Rattle.texts.specs.Texts.{Holds}
 use Rattle.tree.specs.declared.nodes.Node.{Node}
-use Rattle.tree.specs.Trees.{Trees, Label, nil, node, nodes_of, first_of, count_of, at, shown, Row}
+use Rattle.tree.specs.Trees.{Trees, Label, nil, node, nodes_of, count_of, at, Row}
 use Rattle.tree.specs.Keys.{same, under}
 use Rattle.tree.proofs.RowFacts.{count_room}
 use Rattle.tree.proofs.Releasing.{row_top}

@@ -1,11 +1,11 @@
 -- Well-formed trees spell events that fit.
-use Rattle.std.proofs.Common.{ℕ, Bool, List, [], ◌∷◌, ◌++◌}
+use Rattle.std.proofs.Common.{ℕ, List, [], ◌∷◌, ◌++◌}
 use Rattle.stream.specs.Streams.{Ev, Fit, EachFit}
 use Rattle.tree.specs.declared.nodes.Content.{Content}
 use Rattle.tree.specs.declared.nodes.Content.TheVariants.{Free, Array, Dictionary, Pair, Boolean, Data, Integer, Real, String, Uid}
-use Rattle.tree.specs.Trees.{Trees, nil, node, count_of}
+use Rattle.tree.specs.Trees.{nil, node, count_of}
 use Rattle.tree.specs.Walks.{opening, closing, spelled}
-use Rattle.tree.specs.Forms.{TextFits, Formed, holds_pairs, SpelledFit}
+use Rattle.tree.specs.Forms.{TextFits, holds_pairs, SpelledFit}
 
 each_append : (es fs : List Ev) → EachFit es → EachFit fs → EachFit (es ++ fs)
 each_append [] fs a b = b

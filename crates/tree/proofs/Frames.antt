@@ -1,12 +1,12 @@
 -- Two arrays that agree on the cells of some trees hold the same trees.
-use Rattle.std.proofs.Common.{◌≡◌, ℕ, zero, suc, ◌+◌, ◌<◌, ◌≤◌, List, [], ◌∷◌, ◌++◌, length, get_or, set, Some, None, Option, sym, refl, ap, ◌∙◌, subst, arith, length-set, get_or-set_other}
+use Rattle.std.proofs.Common.{◌≡◌, ℕ, zero, suc, ◌+◌, ◌<◌, List, [], ◌∷◌, ◌++◌, length, get_or, set, Some, None, Option, sym, refl, ap, ◌∙◌, subst, arith, length-set, get_or-set_other}
 use Rattle.cells.specs.Chains.{occ, first}
 use Rattle.cells.proofs.Occs.{occ_here, occ_append}
 use Rattle.texts.specs.declared.cell.TextCell.{TextCell}
 use Rattle.texts.specs.Texts.{at as text_at}
 use Rattle.texts.proofs.Kept.{holds_agree}
 use Rattle.tree.specs.declared.nodes.Node.{Node}
-use Rattle.tree.specs.Trees.{Trees, Label, nil, node, nodes_of, texts_of, first_of, at, links, blank, shown, Row, Roots}
+use Rattle.tree.specs.Trees.{Trees, nil, node, nodes_of, texts_of, first_of, at, links, blank, shown, Row, Roots}
 
 -- the nodes agree on the given ones
 abbrev pub Agree : List Node → List Node → List ℕ → Type 0

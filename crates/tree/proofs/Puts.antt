@@ -1,8 +1,8 @@
 -- A change below one node of some trees, however deep.
-use Rattle.std.proofs.Common.{◌≡◌, ℕ, ◌+◌, ◌<◌, ◌≤◌, Bool, true, false, cond, eqb, ◌≢◌, ◌⊎◌, List, [], ◌∷◌, ◌++◌, length, Some, None, Option, sym, refl, ap, ◌∙◌, subst, ap₂, inl, inr, arith, eq-eqb, eqb-true}
+use Rattle.std.proofs.Common.{◌≡◌, ℕ, ◌+◌, ◌<◌, ◌≤◌, true, false, cond, eqb, ◌≢◌, ◌⊎◌, List, [], ◌∷◌, ◌++◌, length, Some, None, Option, sym, refl, ap, ◌∙◌, subst, ap₂, inl, inr, arith, eq-eqb, eqb-true}
 use Rattle.std.proofs.lemmas.Bool.Decides.{nat_tests}
 use Rattle.cells.specs.Chains.{occ, Once, first}
-use Rattle.cells.proofs.Occs.{occ_here, occ_append, some_or_none}
+use Rattle.cells.proofs.Occs.{occ_here, occ_append}
 use Rattle.texts.specs.declared.cell.TextCell.{TextCell}
 use Rattle.texts.specs.Texts.{Holds}
 use Rattle.tree.specs.declared.nodes.Node.{Node}

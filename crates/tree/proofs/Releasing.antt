@@ -1,23 +1,23 @@
 -- Trees given back node by node.
-use Rattle.std.proofs.Common.{◌≡◌, ℕ, zero, suc, ◌+◌, ◌-◌, ◌<◌, ◌≤◌, true, ◌≢◌, ◌⊎◌, List, [], ◌∷◌, ◌++◌, map, length, get_or, set, Some, None, Option, sym, refl, ap, ◌∙◌, subst, ap₂, inl, inr, arith, length-set, get_or-set_other, get_or-set_same}
+use Rattle.std.proofs.Common.{◌≡◌, ℕ, zero, suc, ◌+◌, ◌-◌, ◌<◌, ◌≤◌, true, ◌≢◌, List, [], ◌∷◌, ◌++◌, map, length, get_or, set, Some, None, Option, sym, refl, ap, ◌∙◌, subst, inl, inr, arith, length-set, get_or-set_other, get_or-set_same}
 use mathlib.Core.Logic.{∥∥₁_elim, ∥∥₁_map}
 use native.Mathlib.Bridge.{le_prop}
 use lib.ListN.{length-map}
 use Rattle.cells.specs.declared.frees.FreeList.{FreeList}
 use Rattle.cells.specs.Chains.{Chain, occ, Once, first}
-use Rattle.cells.specs.Frees.{Free, Parted, Freed}
+use Rattle.cells.specs.Frees.{Parted, Freed}
 use Rattle.cells.proofs.Occs.{occ_here, occ_append, occ_cases}
 use Rattle.cells.proofs.Tallies.{most}
 use Rattle.cells.proofs.Giving.{free_give, free_below}
 use Rattle.texts.specs.declared.cell.TextCell.{TextCell}
-use Rattle.texts.specs.Texts.{at as text_at, links as text-links}
-use Rattle.texts.proofs.Writing.{link_at as text-link-at}
+use Rattle.texts.specs.Texts.{at as text_at, links as text_links}
+use Rattle.texts.proofs.Writing.{link_at as text_link_at}
 use Rattle.tree.specs.declared.arrays.Arrays.{Arrays}
 use Rattle.tree.specs.declared.nodes.Node.{Node}
-use Rattle.tree.specs.Trees.{Trees, Label, nil, node, nodes_of, texts_of, first_of, last_or, rooted, tree, without, opened, join, at, links, blank, shown, Row, Roots}
+use Rattle.tree.specs.Trees.{Trees, Label, nil, node, nodes_of, texts_of, first_of, last_or, rooted, tree, without, opened, join, at, links, blank, Row}
 use Rattle.tree.specs.Links.{ending, unlinked, linked, first_or_lem, cleared}
 use Rattle.tree.specs.Models.{Model, Holding, Represents}
-use Rattle.tree.proofs.Frames.{Agree, agree_set, agree_then, row_agree, roots_agree, TextsAgree, row_texts, roots_texts, link_at}
+use Rattle.tree.proofs.Frames.{Agree, agree_set, agree_then, row_agree, roots_agree, row_texts, roots_texts, link_at}
 use Rattle.tree.proofs.RowFacts.{row_join, row_linked, linked_at, linked_long, linked_in, occ_join, text_occ_join, text_occ_node}
 use Rattle.tree.proofs.RootFacts.{occ_tree, text_occ_tree, roots_without, row_tree}
 use Rattle.tree.proofs.AllFree.{unlinked_at}
@@ -83,9 +83,9 @@ module _ (ns : List Node) (nl : FreeList) (cs : List TextCell) (tl : FreeList) (
             (λ i. omega (arith, place i)),
       )
 
-  pub parted : Parted (text-links cs) (at ns k).text l.cells tl gs
+  pub parted : Parted (text_links cs) (at ns k).text l.cells tl gs
   parted = record {
-    chain = subst (λ (h : Option ℕ). Chain (text-links cs) h l.cells) (sym text_is) m.row.3.spans.chain;
+    chain = subst (λ (h : Option ℕ). Chain (text_links cs) h l.cells) (sym text_is) m.row.3.spans.chain;
     spare = m.texts;
     apart = λ i. omega (arith, text_place i);
   }
@@ -99,7 +99,7 @@ module _ (ns : List Node) (nl : FreeList) (cs : List TextCell) (tl : FreeList) (
   -- The node given back, and its text.
   pub turn : (os : List Node) (nl' : FreeList) (ds : List TextCell) (tl' : FreeList) (hs : List ℕ)
       → links os ≡ set (links n₂) k nl.first → map unlinked os ≡ map unlinked n₂ → nl'.first ≡ Some k → nl'.count ≡ nl.count + 1
-      → Freed (text-links cs) l.cells gs (text-links ds) tl' hs → map (λ (c : TextCell). c.bytes) ds ≡ map (λ (c : TextCell). c.bytes) cs
+      → Freed (text_links cs) l.cells gs (text_links ds) tl' hs → map (λ (c : TextCell). c.bytes) ds ≡ map (λ (c : TextCell). c.bytes) cs
       → Model os nl' ds tl' (first_or_lem (first_of ks) nx) (join ks ws) ts (k ∷ fs) hs
   turn os nl' ds tl' hs ls loads head count freed bytes =
       let next : Node → Option ℕ = λ x. x.next in
@@ -111,7 +111,7 @@ module _ (ns : List Node) (nl : FreeList) (cs : List TextCell) (tl : FreeList) (
       let after : (i : ℕ) → i ≢ k → at os i ≡ at n₂ i =
       λ i ne. node_is (at os i) (at n₂ i) (load i) (sym (link_at os i) ∙ ap (λ (xs : List (Option ℕ)). get_or xs i None) ls ∙ get_or-set_other (links n₂) k i nl.first None ne ∙ link_at n₂ i) in
       let text : (i : ℕ) → occ i l.cells ≡ 0 → text_at ds i ≡ text_at cs i =
-      λ i z. cell_is (text_at ds i) (text_at cs i) (sym (text-link-at ds i) ∙ freed.kept i z ∙ text-link-at cs i) (sym (bytes_at ds i) ∙ ap (λ (xs : List (List ℕ)). get_or xs i []) bytes ∙ bytes_at cs i) in
+      λ i z. cell_is (text_at ds i) (text_at cs i) (sym (text_link_at ds i) ∙ freed.kept i z ∙ text_link_at cs i) (sym (bytes_at ds i) ∙ ap (λ (xs : List (List ℕ)). get_or xs i []) bytes ∙ bytes_at cs i) in
       let all : (i : ℕ) → i ≢ k → occ i (nodes_of ks) ≡ 0 → at os i ≡ at ns i = λ i ne z. after i ne ∙ same_at i ne z in
       let lt : k < length ns = m.row.1 in
       let here : at n₂ k ≡ blank = get_or-set_same n₁ k blank blank (omega (arith, lt, long₁)) in
@@ -214,7 +214,7 @@ pub record First (b : Arrays) (k : ℕ) : Type 0 where
   pub last : (j : ℕ) → (at b.nodes k).last ≡ Some j → j < length b.nodes
   pub room : b.free_nodes.count < 512
 
-first_facts : (b : Arrays) (k : ℕ) (w ts : Trees) (fs gs : List ℕ) → Holding b (Some k) w ts fs gs → First b k × ((is : List ℕ) × Parted (text-links b.texts) (at b.nodes k).text is b.free_texts gs)
+first_facts : (b : Arrays) (k : ℕ) (w ts : Trees) (fs gs : List ℕ) → Holding b (Some k) w ts fs gs → First b k × ((is : List ℕ) × Parted (text_links b.texts) (at b.nodes k).text is b.free_texts gs)
 first_facts b k w ts fs gs m =
     let t = row_top b.nodes b.texts k w m.row in
     let m' = subst (λ (v : Trees). Holding b (Some k) v ts fs gs) t.3 m in (
@@ -237,15 +237,15 @@ first_room b k s = record {
   room = ∥∥₁_elim s le_prop (λ x. (first_facts b k x.0 x.1 x.2 x.3 x.4).0.room);
 }
 
-pub first_text : (b : Arrays) (k : ℕ) (h : Option ℕ) → h ≡ (at b.nodes k).text → ∥ ((w ts : Trees) × (fs gs : List ℕ) × Holding b (Some k) w ts fs gs) ∥₁ → ∥ ((is : List ℕ) × (free : List ℕ) × Parted (text-links b.texts) h is b.free_texts free) ∥₁
+pub first_text : (b : Arrays) (k : ℕ) (h : Option ℕ) → h ≡ (at b.nodes k).text → ∥ ((w ts : Trees) × (fs gs : List ℕ) × Holding b (Some k) w ts fs gs) ∥₁ → ∥ ((is : List ℕ) × (free : List ℕ) × Parted (text_links b.texts) h is b.free_texts free) ∥₁
 first_text b k h e s = ∥∥₁_map s (λ x.
     let y = (first_facts b k x.0 x.1 x.2 x.3 x.4).1 in
-    (y.0, x.3, subst (λ (t : Option ℕ). Parted (text-links b.texts) t y.0 b.free_texts x.3) (sym e) y.1))
+    (y.0, x.3, subst (λ (t : Option ℕ). Parted (text_links b.texts) t y.0 b.free_texts x.3) (sym e) y.1))
 
 pub first_freed : (b : Arrays) (k : ℕ) (h : Option ℕ) (os : List Node) (nl' : FreeList) (ds : List TextCell) (tl' : FreeList) (r : Option ℕ) → h ≡ (at b.nodes k).text
     → r ≡ first_or_lem (at b.nodes k).first (at b.nodes k).next → nl'.first ≡ Some k → nl'.count ≡ b.free_nodes.count + 1
     → links os ≡ set (links (cleared b.nodes k)) k b.free_nodes.first → map unlinked os ≡ map unlinked (cleared b.nodes k)
-    → ((is free : List ℕ) → Parted (text-links b.texts) h is b.free_texts free → (left : List ℕ) × Freed (text-links b.texts) is free (text-links ds) tl' left)
+    → ((is free : List ℕ) → Parted (text_links b.texts) h is b.free_texts free → (left : List ℕ) × Freed (text_links b.texts) is free (text_links ds) tl' left)
     → map (λ (c : TextCell). c.bytes) ds ≡ map (λ (c : TextCell). c.bytes) b.texts
     → (w ts : Trees) (fs gs : List ℕ) → Holding b (Some k) w ts fs gs → (hs : List ℕ) × Model os nl' ds tl' r (opened w) ts (k ∷ fs) hs
 first_freed b k h os nl' ds tl' r e goes head count ls loads gave bytes w ts fs gs m =
@@ -255,7 +255,7 @@ first_freed b k h os nl' ds tl' r e goes head count ls loads gave bytes w ts fs 
     let ws = t.2 in
     let m' = subst (λ (v : Trees). Holding b (Some k) v ts fs gs) t.3 m in
     let is-cleared = cleared_is b.nodes b.free_nodes b.texts b.free_texts k l ks ws ts fs gs m' in
-    let y = gave l.cells gs (subst (λ (u : Option ℕ). Parted (text-links b.texts) u l.cells b.free_texts gs) (sym e) (parted b.nodes b.free_nodes b.texts b.free_texts k l ks ws ts fs gs m')) in
+    let y = gave l.cells gs (subst (λ (u : Option ℕ). Parted (text_links b.texts) u l.cells b.free_texts gs) (sym e) (parted b.nodes b.free_nodes b.texts b.free_texts k l ks ws ts fs gs m')) in
     let made = turn b.nodes b.free_nodes b.texts b.free_texts k l ks ws ts fs gs m' os nl' ds tl' y.0
     (ls ∙ ap (λ (xs : List Node). set (links xs) k b.free_nodes.first) is-cleared) (loads ∙ ap (λ (xs : List Node). map unlinked xs) is-cleared) head count y.1 bytes in
     let next : r ≡ first_or_lem (first_of ks) (at b.nodes k).next = goes ∙ ap (λ (f : Option ℕ). first_or_lem f (at b.nodes k).next) (first_is b.nodes b.free_nodes b.texts b.free_texts k l ks ws ts fs gs m') in (

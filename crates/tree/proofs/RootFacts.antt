@@ -1,5 +1,5 @@
 -- Roots: the tree of one, and the trees without it.
-use Rattle.std.proofs.Common.{◌≡◌, ℕ, ◌+◌, ◌<◌, ◌≤◌, Bool, true, false, cond, ◌||◌, eqb, List, [], ◌∷◌, ◌++◌, length, Some, None, Option, sym, refl, ap, ◌∙◌, subst, arith, eqb-true}
+use Rattle.std.proofs.Common.{◌≡◌, ℕ, ◌+◌, true, false, cond, ◌||◌, eqb, List, [], ◌∷◌, ◌++◌, Some, None, sym, refl, ap, subst, arith, eqb-true}
 use Rattle.cells.specs.Chains.{occ}
 use Rattle.cells.proofs.Occs.{occ_append}
 use Rattle.texts.specs.declared.cell.TextCell.{TextCell}

@@ -1,5 +1,5 @@
 -- Rows of trees: where their cells are, one row after another, and a new end.
-use Rattle.std.proofs.Common.{◌≡◌, ℕ, zero, suc, ◌+◌, ◌<◌, ◌≤◌, ◌≢◌, ◌⊎◌, List, [], ◌∷◌, ◌++◌, length, get_or, set, Some, None, Option, sym, refl, ap, ◌∙◌, subst, inl, inr, append_assoc, arith, length-append, length-set, get_or-set_other, get_or-set_same}
+use Rattle.std.proofs.Common.{◌≡◌, ℕ, ◌+◌, ◌<◌, ◌≤◌, ◌≢◌, ◌⊎◌, List, ◌∷◌, ◌++◌, length, set, Some, None, Option, sym, refl, ap, ◌∙◌, subst, inl, inr, append_assoc, arith, length-append, length-set, get_or-set_other, get_or-set_same}
 use Rattle.cells.specs.Chains.{occ, Once, first}
 use Rattle.cells.proofs.Occs.{occ_here, occ_append, occ_cases, occ_split}
 use Rattle.cells.proofs.Tallies.{most}
@@ -8,7 +8,7 @@ use Rattle.texts.proofs.Kept.{holds_below}
 use Rattle.tree.specs.declared.nodes.Node.{Node}
 use Rattle.tree.specs.Trees.{Trees, Label, nil, node, nodes_of, texts_of, first_of, last_or, count_of, join, at, blank, shown, Row, Roots}
 use Rattle.tree.specs.Links.{ending, linked, first_or_lem}
-use Rattle.tree.proofs.Frames.{Agree, agree_set, row_agree}
+use Rattle.tree.proofs.Frames.{agree_set, row_agree}
 
 module _ (ns : List Node) (cs : List TextCell) where
   pub row_below : (head : Option ℕ) (ts : Trees) (end : Option ℕ) → Row ns cs head ts end → (i : ℕ) → 0 < occ i (nodes_of ts) → i < length ns

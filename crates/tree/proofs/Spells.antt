@@ -1,5 +1,5 @@
 -- A walk over trees in cells says how they are spelled.
-use Rattle.std.proofs.Common.{◌≡◌, ℕ, zero, suc, ◌+◌, ◌-◌, ◌*◌, ◌/◌, ◌<◌, ◌≤◌, min, Bool, true, false, cond, eqb, ◌⊎◌, List, [], ◌∷◌, ◌++◌, length, Some, None, Option, sym, refl, ap, ◌∙◌, subst, ap₂, inl, inr, append_assoc, append-nil, arith, length-append, eq-eqb, eqb-true}
+use Rattle.std.proofs.Common.{◌≡◌, ℕ, zero, suc, ◌+◌, ◌-◌, ◌*◌, ◌/◌, ◌<◌, ◌≤◌, min, Bool, true, false, cond, eqb, List, [], ◌∷◌, ◌++◌, length, Some, None, Option, sym, refl, ap, ◌∙◌, subst, ap₂, inl, inr, append_assoc, append-nil, arith, length-append, eq-eqb, eqb-true}
 use Rattle.cells.specs.Chains.{Chain, occ, Once, first}
 use Rattle.cells.proofs.Occs.{occ_here, occ_append, occ_cases, occ_split}
 use Rattle.cells.proofs.Tallies.{most}
@@ -7,7 +7,7 @@ use Rattle.stream.specs.Streams.{Ev}
 use Rattle.texts.specs.declared.cell.TextCell.{TextCell}
 use Rattle.texts.specs.Texts.{links, front, text_of, cells_for, Spans, Holds, at as text_at}
 use Rattle.texts.proofs.Reading.{text_nil, text_cons}
-use Rattle.texts.proofs.Writing.{link_at as text-link-at}
+use Rattle.texts.proofs.Writing.{link_at as text_link_at}
 use Rattle.tree.specs.declared.arrays.Arrays.{Arrays}
 use Rattle.tree.specs.declared.cursor.Cursor.{Cursor}
 use Rattle.tree.specs.declared.cursor.Cursor.TheVariants.{Over, Enter, Leave}
@@ -28,7 +28,7 @@ gathered_is zero cs head (i ∷ is) n s h = let never : ⊥ = omega arith in abs
 gathered_is (suc f) cs head (i ∷ is) n s h =
     let enough : suc (length is) ≡ (n + 23) / 24 = s.enough in
     let fewer : length is ≡ (n - 24 + 23) / 24 = omega arith in
-    let more : Spans cs (text_at cs i).next is (n - 24) = record { chain = subst (λ (k : Option ℕ). Chain (links cs) k is) (text-link-at cs i) s.chain.2; enough = fewer } in
+    let more : Spans cs (text_at cs i).next is (n - 24) = record { chain = subst (λ (k : Option ℕ). Chain (links cs) k is) (text_link_at cs i) s.chain.2; enough = fewer } in
     ap (λ (k : Option ℕ). gathered (suc f) cs k n) s.chain.0
     ∙ ap (λ (t : List ℕ). front (min n 24) (text_at cs i).bytes ++ t) (gathered_is f cs (text_at cs i).next is (n - 24) more (omega arith))
     ∙ sym (text_cons cs i is n)

@@ -1,10 +1,10 @@
 -- The model: trees in cells, each cell free or used once.
-use Rattle.std.specs.Prelude.{◌≡◌, ℕ, ◌+◌, ◌<◌, List, length, Some, None, Option}
+use Rattle.std.specs.Prelude.{◌≡◌, ℕ, ◌+◌, ◌<◌, List, length, None, Option}
 use Rattle.cells.specs.declared.frees.FreeList.{FreeList}
 use Rattle.cells.specs.Chains.{occ}
 use Rattle.cells.specs.Frees.{Free}
 use Rattle.texts.specs.declared.cell.TextCell.{TextCell}
-use Rattle.texts.specs.Texts.{links as text-links}
+use Rattle.texts.specs.Texts.{links as text_links}
 use Rattle.tree.specs.declared.arrays.Arrays.{Arrays}
 use Rattle.tree.specs.declared.nodes.Node.{Node}
 use Rattle.tree.specs.declared.nodes.Content.TheVariants.{Free as Unused}
@@ -16,7 +16,7 @@ pub record Model (ns : List Node) (nl : FreeList) (cs : List TextCell) (tl : Fre
   pub long : length ns ≡ 512
   pub wide : length cs ≡ 1024
   pub nodes : Free (links ns) nl fs
-  pub texts : Free (text-links cs) tl gs
+  pub texts : Free (text_links cs) tl gs
   pub empty : (i : ℕ) → 0 < occ i fs → (at ns i).content ≡ Unused
   pub row : Row ns cs todo w None
   pub roots : Roots ns cs ts

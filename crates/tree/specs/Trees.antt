@@ -1,5 +1,5 @@
 -- Labelled trees: which node and which text cells each value, key and pair uses, and what the cells then hold.
-use Rattle.std.specs.Prelude.{◌≡◌, ℕ, ◌+◌, ◌<◌, Bool, true, false, cond, ◌||◌, List, [], ◌∷◌, ◌++◌, map, length, Some, None, Option, ◌==◌, slice_index_or}
+use Rattle.std.specs.Prelude.{◌≡◌, ℕ, ◌+◌, ◌<◌, Bool, false, cond, ◌||◌, List, [], ◌∷◌, ◌++◌, map, length, Some, None, Option, ◌==◌, slice_index_or}
 use Rattle.cells.specs.Chains.{first}
 use Rattle.texts.specs.declared.cell.TextCell.{TextCell}
 use Rattle.texts.specs.Texts.{Holds}

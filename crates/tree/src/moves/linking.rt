@@ -2,7 +2,7 @@
 ghost use Rattle.std.specs.Prelude.{◌≡◌, ℕ, ◌<◌, length, Some};
 ghost use Rattle.cells.specs.Chains.{occ};
 ghost use Rattle.tree.specs.Links.{linked, first_or_lem, linked_below, unlinked_below};
-ghost use Rattle.tree.specs.Trees.{Trees, nodes_of, at as Node-at};
+ghost use Rattle.tree.specs.Trees.{Trees, nodes_of, at as node_at_lem};
 ghost use Rattle.tree.specs.Models.{Represents};
 ghost use Rattle.tree.specs.Moves.{Separate, appended, Detached};
 
@@ -34,8 +34,8 @@ pub(crate) fn first_or(first: Option<u16>, to: Option<u16>) -> Option<u16>
 fn link_below(nodes: &mut [Node], to: u16, new: u16)
     requires to_within { to < length nodes.old }
     requires new_within { new < length nodes.old }
-    requires last_within { (k : ℕ) → (Node-at nodes.old to).last ≡ Some k → k < length nodes.old }
-    requires room { (Node-at nodes.old to).count < 65535 }
+    requires last_within { (k : ℕ) → (node_at_lem nodes.old to).last ≡ Some k → k < length nodes.old }
+    requires room { (node_at_lem nodes.old to).count < 65535 }
     ensures { nodes.new ≡ linked_below nodes.old to new }
 {
     let above = nodes[to as usize];

@@ -1,7 +1,7 @@
 // Trees given back, with all their text cells.
 ghost use Rattle.std.specs.Prelude.{◌≡◌, ℕ, ◌+◌, ◌<◌, true, List, ◌∷◌, map, length, Some, slice_set};
 ghost use Rattle.tree.specs.Links.{first_or_lem, cleared, unlinked};
-ghost use Rattle.tree.specs.Trees.{Trees, opened, rooted, without, links, at as Node-at};
+ghost use Rattle.tree.specs.Trees.{Trees, opened, rooted, without, links, at as node_at_lem};
 ghost use Rattle.tree.specs.Models.{Holding, Represents};
 
 use super::linking::{first_or, link_last};
@@ -12,9 +12,9 @@ use cells::frees::{FreeList, give, give_chain};
 // Frees a node: what is below it, or else what comes behind it, comes next.
 fn clear_node(nodes: &mut [Node], list: &mut FreeList, n: u16) -> Option<u16>
     requires within { n < length nodes.old }
-    requires last_within { (k : ℕ) → (Node-at nodes.old n).last ≡ Some k → k < length nodes.old }
+    requires last_within { (k : ℕ) → (node_at_lem nodes.old n).last ≡ Some k → k < length nodes.old }
     requires room { list.old.count < 65535 }
-    ensures next { result ≡ first_or_lem (Node-at nodes.old n).first (Node-at nodes.old n).next }
+    ensures next { result ≡ first_or_lem (node_at_lem nodes.old n).first (node_at_lem nodes.old n).next }
     ensures first { list.new.first ≡ Some n }
     ensures count { list.new.count ≡ list.old.count + 1 }
     ensures links { links nodes.new ≡ slice_set (links (cleared nodes.old n)) n list.old.first }

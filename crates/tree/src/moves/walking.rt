@@ -1,11 +1,11 @@
 // Walks over trees, step by step.
 ghost use Rattle.std.specs.Prelude.{◌≡◌, ℕ, ◌<◌, None};
 ghost use Rattle.cells.specs.Chains.{occ};
-ghost use Rattle.tree.specs.Trees.{Trees, nodes_of, at as Node-at};
+ghost use Rattle.tree.specs.Trees.{Trees, nodes_of, at as node_at_lem};
 ghost use Rattle.tree.specs.Models.{Represents};
 ghost use Rattle.tree.specs.Forms.{SpelledFit};
 ghost use Rattle.tree.specs.Ups.{Under};
-ghost use Rattle.tree.specs.Walks.{within as first-within, past as past_of, onward, run, spelled, subtree};
+ghost use Rattle.tree.specs.Walks.{within as first_within, past as past_of, onward, run, spelled, subtree};
 
 use crate::arrays::Arrays;
 use crate::cursor::Cursor;
@@ -13,7 +13,7 @@ use crate::nodes::{FREE, Node};
 
 // The node at an index, or a free one past the end.
 pub fn node_at(nodes: &[Node], i: u16) -> Node
-    ensures { result ≡ Node-at nodes.now i }
+    ensures { result ≡ node_at_lem nodes.now i }
 {
     if (i as usize) < nodes.len() {
         nodes[i as usize]
@@ -24,7 +24,7 @@ pub fn node_at(nodes: &[Node], i: u16) -> Node
 
 // To the first node below, or out again.
 fn within(first: Option<u16>, i: u16) -> Cursor
-    ensures { result ≡ first-within first i }
+    ensures { result ≡ first_within first i }
 {
     match first {
         None => Cursor::Leave(i),

@@ -1,4 +1,4 @@
-use Rattle.std.proofs.Common.{set, sym, refl, ap, ◌∙◌}
+use Rattle.std.proofs.Common.{set, refl, ap, ◌∙◌}
 use Rattle.std.proofs.lemmas.List.{map-set}
 use Rattle.cells.proofs.Links.{map_kept}
 use Rattle.cells.proofs.frees.give.Goals as goal

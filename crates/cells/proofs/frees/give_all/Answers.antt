@@ -1,4 +1,4 @@
-use Rattle.std.proofs.Common.{◌≡◌, ◌<◌, map, length, ◌∙◌, arith}
+use Rattle.std.proofs.Common.{◌<◌, map, length, ◌∙◌, arith}
 use lib.ListN.{length-map}
 use Rattle.cells.proofs.Downs.{length_down, down_more}
 use Rattle.cells.proofs.frees.give_all.Goals as goal

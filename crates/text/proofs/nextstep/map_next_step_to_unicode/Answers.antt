@@ -1,4 +1,4 @@
-use Rattle.std.proofs.Common.{◌-◌, ◌<◌, ◌≤◌, arith, rules}
+use Rattle.std.proofs.Common.{arith, rules}
 use Rattle.text.specs.Nextstep.{nextstep}
 use Rattle.text.proofs.Tables.{from_table}
 use Rattle.text.proofs.nextstep.map_next_step_to_unicode.Goals as goal

@@ -1,4 +1,4 @@
-use Rattle.std.proofs.Common.{sym, refl, ◌∙◌, arith, rules}
+use Rattle.std.proofs.Common.{refl, ◌∙◌, arith}
 use Rattle.text.specs.Due.{ranges}
 use Rattle.text.specs.Utf8.{utf8}
 use Rattle.text.proofs.Scans.{goes_ascii, goes_more, goes_not, goes_whole}

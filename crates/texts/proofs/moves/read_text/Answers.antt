@@ -1,8 +1,8 @@
-use Rattle.std.proofs.Common.{◌≡◌, ℕ, ◌+◌, ◌-◌, ◌<◌, ◌≤◌, min, List, ◌++◌, length, take, drop, sym, refl, ap, ◌∙◌, subst, arith, length-drop, length-take, rules}
+use Rattle.std.proofs.Common.{◌≡◌, ℕ, ◌+◌, ◌-◌, ◌<◌, ◌≤◌, min, List, ◌++◌, length, take, drop, sym, ap, ◌∙◌, subst, arith, length-drop, length-take}
 use mathlib.Core.Logic.{∥∥₁_map}
 use Rattle.std.proofs.lemmas.Slice.{take-put_mid, drop-put_mid}
 use Rattle.texts.specs.Texts.{at, text_of, Spans}
-use Rattle.texts.proofs.Reading.{Reading, front_take, some_below, some_more, reading_start, reading_more, reading_done}
+use Rattle.texts.proofs.Reading.{front_take, some_below, some_more, reading_start, reading_more, reading_done}
 use Rattle.texts.proofs.moves.read_text.Goals as goal
 use Rattle.texts.proofs.moves.read_text.Goals.{then-left-lt24, else-left-lt24}
 
@@ -15,7 +15,7 @@ bounds-cells-at c = some_below c.args.cells.now c.loop-todo.todo c.in-Some.at (c
 pub overflow_sub-left : goal.overflow_sub-left
 overflow_sub-left c = c.loop-todo.invariant.within
 
-m-is : (c : goal.After-slice-known-in-Some·1) → c.if-left-lt24.m ≡ min (c.args.n - c.loop-todo.done) 24
+m-is : (c : goal.After-slice_known-in-Some-1) → c.if-left-lt24.m ≡ min (c.args.n - c.loop-todo.done) 24
 m-is c = elim c.if-left-lt24.branch [ then-left-lt24 w ↦ omega (arith, w.m-is, w.if-left-lt24.true) | else-left-lt24 w ↦ omega (arith, w.m-is, w.if-left-lt24.false) ]
 
 pub loop-todo-smaller : goal.loop-todo-smaller

@@ -1,7 +1,7 @@
-use Rattle.std.proofs.Common.{◌≡◌, ℕ, ◌+◌, ◌-◌, ◌<◌, ◌≤◌, min, length, get_or, sym, refl, ap, ◌∙◌, subst, arith, rules}
+use Rattle.std.proofs.Common.{◌≡◌, ℕ, ◌-◌, ◌<◌, min, length, sym, refl, ap, ◌∙◌, subst, arith}
 use mathlib.Core.Logic.{∥∥₁_map}
-use Rattle.texts.specs.Texts.{at, text_of, Spans, Holds}
-use Rattle.texts.proofs.Reading.{Reading, some_below, some_more, reading_start, reading_differs, reading_agrees, reading_same}
+use Rattle.texts.specs.Texts.{text_of, Spans}
+use Rattle.texts.proofs.Reading.{some_below, some_more, reading_start, reading_differs, reading_agrees, reading_same}
 use Rattle.texts.proofs.moves.same_text.Goals as goal
 use Rattle.texts.proofs.moves.same_text.Goals.{then-left-lt24, else-left-lt24}
 

@@ -1,6 +1,6 @@
-use Rattle.std.proofs.Common.{◌≡◌, ℕ, ◌+◌, ◌-◌, ◌*◌, ◌/◌, ◌<◌, ◌≤◌, min, List, ◌++◌, length, take, drop, Some, None, sym, refl, ap, ◌∙◌, subst, arith, rules}
+use Rattle.std.proofs.Common.{◌≡◌, ◌+◌, ◌-◌, ◌*◌, ◌/◌, ◌<◌, ◌≤◌, min, length, take, drop, sym, refl, ap, ◌∙◌, arith}
 use Rattle.std.proofs.lemmas.List.{length-drop, length-take-le}
-use Rattle.texts.proofs.Writing.{Writing, front_append, some_in, some_counted, some_none, writing_start, writing_more, writing_done}
+use Rattle.texts.proofs.Writing.{front_append, some_in, some_counted, some_none, writing_start, writing_more}
 use Rattle.texts.proofs.moves.write_text.Goals as goal
 use Rattle.texts.proofs.moves.write_text.Goals.{then-text-start, else-text-start}
 

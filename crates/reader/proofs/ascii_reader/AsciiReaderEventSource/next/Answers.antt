@@ -12,7 +12,7 @@ returns-in-Ok-Some g c =
     let s₂ = c.clear-in-Ok-Some.new.scratch in
     let none : u.failed ≡ None = search rules in
     let ev = c.in-Ok-Some.event in
-    next_event u v s s₁ s₂ (omega arith) (omega arith) c.read_next.ensures.kept ev none c.read_next.result (search rules) c.read_next.ensures.reads c.text_length_lem.result c.text_length_lem.ensures c.clear-in-Ok-Some.ensures.room
+    next_event u v s s₁ s₂ (omega arith) (omega arith) c.read_next.ensures.kept ev none c.read_next.result (search rules) c.read_next.ensures.reads c.text_length.result c.text_length.ensures c.clear-in-Ok-Some.ensures.room
 
 pub returns-in-Ok-None : goal.returns-in-Ok-None
 returns-in-Ok-None g c =

@@ -5,8 +5,8 @@ use Rattle.text.proofs.Forms.{one_form_each_lem}
 use Rattle.stream.specs.declared.events.Event.TheVariants.{Integer}
 use Rattle.stream.proofs.events.EventPartialEq.eq.Goals as goal
 
-pub returns-in-Integer-matches : goal.returns-in-Integer-matches
-returns-in-Integer-matches c =
+pub returns-in-Integer-matches-clause-same : goal.returns-in-Integer-matches-clause-same
+returns-in-Integer-matches-clause-same c =
     let a = c.in-Integer.a in
     let b = c.in-Integer-matches.b in
     let same : value a ≡ value b = search rules in

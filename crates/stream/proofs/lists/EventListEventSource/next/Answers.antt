@@ -1,4 +1,4 @@
-use Rattle.std.proofs.Common.{◌≡◌, ℕ, ◌<◌, List, ◌++◌, length, ap, ◌∙◌, arith, rules}
+use Rattle.std.proofs.Common.{ℕ, List, ◌++◌, length, ap, ◌∙◌, arith, rules}
 use Rattle.stream.specs.Scratch.{behind}
 use Rattle.stream.proofs.Listed.{next_none, next_first}
 use Rattle.stream.proofs.lists.EventListEventSource.next.Goals as goal

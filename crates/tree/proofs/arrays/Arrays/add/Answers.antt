@@ -1,4 +1,4 @@
-use Rattle.std.proofs.Common.{◌≡◌, ◌<◌, ◌≤◌, sym, refl, ◌∙◌, arith, rules}
+use Rattle.std.proofs.Common.{◌≤◌, sym, refl, arith}
 use Rattle.cells.specs.Chains.{rest}
 use Rattle.tree.proofs.Adding.{model_added, sound_texts, sound_first, sound_none, sound_long}
 use Rattle.tree.proofs.arrays.Arrays.add.Goals as goal

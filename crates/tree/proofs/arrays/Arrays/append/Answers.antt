@@ -1,4 +1,4 @@
-use Rattle.std.proofs.Common.{◌≡◌, List, None, sym, subst, arith}
+use Rattle.std.proofs.Common.{List, None, sym, subst, arith}
 use Rattle.tree.specs.declared.nodes.Node.{Node}
 use Rattle.tree.specs.Trees.{nil}
 use Rattle.tree.specs.Models.{Model}
@@ -9,7 +9,7 @@ use Rattle.tree.proofs.arrays.Arrays.append.Goals as goal
 pub link_below-requires : goal.link_below-requires
 link_below-requires c =
     let r = append_room c.args.self.now c.args.to c.args.new c.requires.placed in
-    record { to-within = r.to_in; new-within = r.new_in; last_within = r.last_in; room = omega (arith, r.few) }
+    record { to_within = r.to_in; new_within = r.new_in; last_within = r.last_in; room = omega (arith, r.few) }
 
 pub returns : goal.returns
 returns c = record {

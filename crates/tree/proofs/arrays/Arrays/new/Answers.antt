@@ -1,4 +1,4 @@
-use Rattle.std.proofs.Common.{◌≡◌, replicate, None, refl}
+use Rattle.std.proofs.Common.{replicate, None}
 use lib.ListN.{length-replicate}
 use Rattle.texts.specs.declared.cell.TextCell.{TextCell}
 use Rattle.tree.specs.Trees.{blank}

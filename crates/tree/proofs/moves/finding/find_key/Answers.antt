@@ -1,8 +1,8 @@
-use Rattle.std.proofs.Common.{◌≡◌, ℕ, ◌<◌, Bool, List, length, Decides, Option, sym, refl, ap, ◌∙◌, subst}
+use Rattle.std.proofs.Common.{◌≡◌, ℕ, ◌<◌, List, length, Decides, Option, sym, refl, ap, subst}
 use Rattle.std.proofs.lemmas.List.{get_or_read}
 use Rattle.texts.specs.Texts.{Holds}
 use Rattle.tree.specs.declared.nodes.Node.{Node}
-use Rattle.tree.specs.Trees.{at, blank}
+use Rattle.tree.specs.Trees.{blank}
 use Rattle.tree.proofs.Finding.{Finding, reach, finding_in, finding_text, finding_less, finding_found, finding_more, finding_none}
 use Rattle.tree.proofs.moves.finding.find_key.Goals as goal
 

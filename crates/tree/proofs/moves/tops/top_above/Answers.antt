@@ -1,4 +1,4 @@
-use Rattle.std.proofs.Common.{◌≡◌, ap}
+use Rattle.std.proofs.Common.{ap}
 use Rattle.std.proofs.lemmas.List.{get_or_default}
 use Rattle.tree.specs.declared.nodes.Node.{Node}
 use Rattle.tree.specs.Trees.{blank}
