@@ -1,4 +1,4 @@
-use Rattle.std.proofs.Common.{◌≡◌, vec_items, arith, rules}
+use Rattle.std.proofs.Common.{vec_items, arith, rules}
 use Rattle.report.proofs.Printing.{on}
 use Rattle.report.proofs.events.push_events.Goals as goal
 
