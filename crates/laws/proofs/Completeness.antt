@@ -8,7 +8,7 @@ use Rattle.stream.specs.declared.errors.Error.{Error}
 use Rattle.stream.specs.declared.errors.Error.TheVariants.{TooLong, TextTooLong}
 use Rattle.reader.specs.Comments.{line_comment_lem, closes, state_after, in_comment}
 use Rattle.laws.specs.Format.{OneOf, Each, Without, plain_ends, EndsPlain}
-use Rattle.reader.specs.Steps.{Done, Run, pure, onward, ◌>>=◌, limit, step_gives, stepped, step, then}
+use Rattle.reader.specs.Steps.{Done, Run, pure, onward, ◌>>=◌, limit, step_gives, stepped, then}
 use Rattle.reader.specs.Texts.{text_bytes, plain, present, quoted_byte}
 use Rattle.reader.specs.declared.states.Comment.{Comment}
 use Rattle.reader.specs.declared.states.Comment.TheVariants.{Plain, Star}

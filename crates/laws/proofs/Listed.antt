@@ -5,7 +5,6 @@ use Rattle.std.proofs.lemmas.Bool.{eq-eqb, ne_eqb, or_from, cases_eq}
 use Rattle.text.specs.Notation.{Notation}
 use Rattle.text.specs.Numbers.{number}
 use Rattle.text.specs.Utf8.{Utf8, utf8}
-use Rattle.source.specs.Asking.{first}
 use Rattle.source.specs.declared.sources.Ending.{Ending}
 use Rattle.source.specs.declared.sources.Ending.TheVariants.{End}
 use Rattle.stream.specs.Streams.{Ev, stream, over}
@@ -16,8 +15,8 @@ use Rattle.laws.specs.Format.{OneOf, Each, separators, plain_ends, no_plain_begi
 use Rattle.laws.specs.Laws.{followed}
 use Rattle.reader.specs.Readings.{before, item_then, reading}
 use Rattle.reader.specs.Steps.{Run, pure, refuse, onward, ◌>>=◌, whether, limit, stepped}
-use Rattle.reader.specs.Texts.{whole_text, plain, integer_or_string, unquoted, quoted}
-use Rattle.reader.specs.Tokens.{token, passed_over, separator, as_token, as_nothing, potential_comment_lem, begun, begun_if, item}
+use Rattle.reader.specs.Texts.{whole_text, integer_or_string, unquoted, quoted}
+use Rattle.reader.specs.Tokens.{token, passed_over, as_token, as_nothing, potential_comment_lem, begun, begun_if, item}
 use Rattle.reader.specs.declared.states.Comment.{Comment}
 use Rattle.laws.proofs.Completeness.{done, Sure, sure_append, sure_cons, sure_step, at_position, EndsLine, line_on, comment_on, plain_on}
 use Rattle.laws.proofs.Quotations.{quoted_text_on}

@@ -8,12 +8,12 @@ use Rattle.text.specs.Utf8.{Utf8, utf8}
 use Rattle.source.specs.Asking.{answer}
 use Rattle.source.specs.declared.sources.Ending.{Ending}
 use Rattle.source.specs.declared.sources.Ending.TheVariants.{End, Fault}
-use Rattle.stream.specs.Streams.{Ev, Stream, stream, over, first}
+use Rattle.stream.specs.Streams.{Ev, Stream, stream, over}
 use Rattle.stream.specs.declared.errors.Error.{Error}
 use Rattle.stream.specs.declared.errors.Error.TheVariants.{InvalidUtf8AsciiStream}
 use Rattle.stream.specs.declared.sources.Ending.{Ending as StreamEnding}
 use Rattle.reader.specs.Comments.{line_comment_lem, in_comment, block_comment_lem}
-use Rattle.laws.specs.Format.{OneOf, Each, separators, plain_ends, no_plain_begins, Text, Quoted, Plain, PlainEvent, Number, EndsPlain, SlashGoesOn, Token, LineComment, Skipped, Items, Lists, StartsWith}
+use Rattle.laws.specs.Format.{OneOf, Each, separators, plain_ends, no_plain_begins, Text, Quoted, PlainEvent, Number, EndsPlain, SlashGoesOn, Token, LineComment, Skipped, Items, Lists, StartsWith}
 use Rattle.reader.specs.Readings.{before, item_then, reading}
 use Rattle.reader.specs.Steps.{Done, Run, pure, refuse, onward, ◌>>=◌, whether, limit, step_gives, stepped}
 use Rattle.reader.specs.Texts.{whole_text, plain, integer_or_string, unquoted, quoted_from, quoted}

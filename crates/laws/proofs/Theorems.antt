@@ -1,5 +1,5 @@
 -- The laws of the reading, from what its runs take and what the format says.
-use Rattle.std.proofs.Common.{◌≡◌, ℕ, ◌+◌, ◌≤◌, List, ◌∷◌, ◌++◌, length, Decides, sym, ap, ◌∙◌, zero-add, arith}
+use Rattle.std.proofs.Common.{◌≡◌, ℕ, ◌≤◌, List, ◌∷◌, ◌++◌, length, Decides, sym, ap, ◌∙◌, zero-add, arith}
 use Rattle.text.specs.Notation.{Notation}
 use Rattle.text.specs.Utf8.{Utf8, utf8}
 use Rattle.source.specs.declared.sources.Ending.{Ending}

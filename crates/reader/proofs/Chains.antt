@@ -3,7 +3,7 @@ use Rattle.std.proofs.Common.{◌≡◌, ℕ, ◌≤◌, List, [], ◌∷◌, le
 use Rattle.source.specs.Asking.{rest}
 use Rattle.source.specs.declared.sources.Ending.{Ending}
 use Rattle.stream.specs.declared.errors.Error.{Error}
-use Rattle.reader.specs.States.{Seen, untaken, ends, Full, Moved, Ran, Stepped}
+use Rattle.reader.specs.States.{Seen, untaken, ends, Moved, Ran, Stepped}
 use Rattle.reader.specs.Steps.{Done, Run, pure, onward, ◌>>=◌, step_gives, stepped, step}
 
 pub moved_trans : (u v w : Seen) → Moved u v → Moved v w → Moved u w

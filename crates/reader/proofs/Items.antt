@@ -1,18 +1,17 @@
 -- One item, from the step that took its first byte on.
-use Rattle.std.proofs.Common.{◌≡◌, ℕ, ◌+◌, ◌<◌, ◌≤◌, List, [], ◌∷◌, length, Some, None, Ok, Err, Option, Result, sym, refl, ap, ◌∙◌, subst, arith}
+use Rattle.std.proofs.Common.{◌≡◌, ℕ, ◌<◌, List, [], ◌∷◌, length, Some, None, Ok, Err, Option, Result, sym, refl, ap, ◌∙◌, arith}
 use Rattle.std.proofs.lemmas.Bool.Decides.{nat_tests}
 use Rattle.source.specs.Asking.{answer, rest}
 use Rattle.source.specs.declared.sources.Ending.{Ending as SourceEnding}
 use Rattle.source.specs.declared.sources.Ending.TheVariants.{End, Fault}
-use Rattle.stream.specs.Streams.{over, first}
+use Rattle.stream.specs.Streams.{over}
 use Rattle.stream.specs.declared.errors.Error.{Error}
 use Rattle.stream.specs.declared.sources.Ending.{Ending}
 use Rattle.reader.specs.Meanings.{reading_of}
 use Rattle.reader.specs.Readings.{before, item_then, reading_within, reading}
-use Rattle.reader.specs.States.{Seen, untaken, ends, Full, Moved, Ran, Took, Stepped}
-use Rattle.reader.specs.Steps.{Done, Run, current, step_gives, past, stepped, step}
-use Rattle.reader.specs.Tokens.{Item, token, passed_over, the_end, begun, begun_if, item}
-use Rattle.reader.specs.declared.states.Lookahead.TheVariants.{Over}
+use Rattle.reader.specs.States.{Seen, untaken, ends, Ran, Stepped}
+use Rattle.reader.specs.Steps.{Done, current, step_gives, step}
+use Rattle.reader.specs.Tokens.{Item, the_end, begun, begun_if, item}
 use Rattle.reader.proofs.Chains.{ran_then, ran_refused, ran_step, ran_step_refused}
 use Rattle.reader.proofs.Unfolding.{reading_on}
 

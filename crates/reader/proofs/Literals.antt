@@ -5,7 +5,7 @@ use Rattle.text.specs.Utf8.{utf8}
 use Rattle.stream.specs.Streams.{Ev}
 use Rattle.stream.specs.declared.errors.Error.{Error}
 use Rattle.stream.specs.declared.errors.Error.TheVariants.{InvalidUtf8AsciiStream}
-use Rattle.reader.specs.States.{Seen, Moved, Ran}
+use Rattle.reader.specs.States.{Seen, Ran}
 use Rattle.reader.specs.Steps.{Run, pure, ◌>>=◌}
 use Rattle.reader.specs.Texts.{whole_text, plain}
 use Rattle.reader.proofs.Chains.{ran_then, ran_refused}

@@ -1,12 +1,12 @@
 -- A plain token, byte by byte.
-use Rattle.std.proofs.Common.{◌≡◌, ℕ, ◌+◌, Bool, true, false, cond, leb, List, [], ◌∷◌, ◌++◌, length, Some, None, Ok, Err, Option, Result, sym, refl, ap, ◌∙◌, arith}
+use Rattle.std.proofs.Common.{◌≡◌, ℕ, ◌+◌, true, false, leb, List, [], ◌∷◌, ◌++◌, length, Some, Ok, Err, Option, Result, sym, ap, ◌∙◌, arith}
 use Rattle.std.proofs.lemmas.Bool.Decides.{nat_tests}
 use Rattle.source.specs.Asking.{answer}
 use Rattle.source.specs.declared.sources.Ending.{Ending}
 use Rattle.stream.specs.declared.errors.Error.{Error}
 use Rattle.stream.specs.declared.errors.Error.TheVariants.{TextTooLong}
 use Rattle.reader.specs.States.{Seen, untaken, ends, Stepped}
-use Rattle.reader.specs.Steps.{Done, past, current, step_gives, then}
+use Rattle.reader.specs.Steps.{Done, past, current, step_gives}
 use Rattle.reader.specs.Texts.{ends_plain_lem, plain}
 use Rattle.reader.specs.declared.states.Lookahead.TheVariants.{Byte}
 

@@ -6,15 +6,15 @@ use Rattle.text.specs.Nextstep.{nextstep}
 use Rattle.text.specs.Numbers.{number}
 use Rattle.text.specs.Utf16.{surrogate, decode}
 use Rattle.text.specs.Utf8.{utf8, encode}
-use Rattle.source.specs.Asking.{answer, rest}
+use Rattle.source.specs.Asking.{answer}
 use Rattle.source.specs.declared.sources.Ending.{Ending}
 use Rattle.source.specs.declared.sources.Ending.TheVariants.{End, Fault}
-use Rattle.stream.specs.Streams.{Ev, Stream, over, first}
+use Rattle.stream.specs.Streams.{Ev, Stream, first}
 use Rattle.stream.specs.declared.errors.Error.{Error}
 use Rattle.stream.specs.declared.errors.Error.TheVariants.{TooLong, TextTooLong, InvalidUtf8AsciiStream, InvalidOctalString, InvalidUtf16String}
 use Rattle.reader.specs.Comments.{line_comment_lem, closes, state_after, in_comment, block_comment_lem}
 use Rattle.reader.specs.Readings.{before, item_then, reading_within, reading}
-use Rattle.reader.specs.Steps.{Done, Run, pure, refuse, onward, ◌>>=◌, whether, or_refuse, limit, current, step_gives, past, stepped, step, peek, then}
+use Rattle.reader.specs.Steps.{Done, Run, pure, refuse, onward, ◌>>=◌, whether, or_refuse, limit, current, step_gives, stepped, step, peek, then}
 use Rattle.reader.specs.Texts.{text_bytes, added, whole_text, ends_plain_lem, plain, integer_or_string, unquoted, present, quoted_byte, named, octal_escape_lem, utf16_code_unit_lem, letter_u, second_opened, second_code_unit_lem, second_if, utf16_escape_lem, escaped, escape, piece, extended, quoted_within, quoted_from, quoted}
 use Rattle.reader.specs.Tokens.{Item, token, passed_over, the_end, separator, as_token, as_nothing, behind_slash, potential_comment_lem, begun, begun_if, item}
 use Rattle.reader.specs.declared.states.Comment.{Comment}

@@ -1,5 +1,5 @@
 -- Comments: what each takes.
-use Rattle.std.specs.Prelude.{ℕ, ◌+◌, Bool, false, cond, List, [], ◌∷◌, Ok, Err, ◌==◌}
+use Rattle.std.specs.Prelude.{ℕ, ◌+◌, Bool, false, cond, [], ◌∷◌, ◌==◌}
 use Rattle.stream.specs.declared.errors.Error.TheVariants.{IncompleteComment}
 use Rattle.reader.specs.Steps.{Run, pure, refuse, ◌>>=◌, step_gives, step, then}
 use Rattle.reader.specs.declared.states.Comment.{Comment}

@@ -1,6 +1,6 @@
 -- Every event of a reading fits: texts of at most 1,024 bytes, and Strings in UTF-8.
-use Rattle.std.specs.Prelude.{◌≡◌, ℕ, zero, suc, ◌+◌, ◌<◌, ◌≤◌, Bool, true, false, cond, ◌||◌, List, [], ◌∷◌, ◌++◌, length, ℤ, Some, None, Ok, Err, Option, Result, ◌==◌, nat_le, refl}
-use Rattle.std.proofs.Common.{sym, subst, ◌∙◌, arith, length-append}
+use Rattle.std.specs.Prelude.{◌≡◌, ℕ, zero, suc, ◌+◌, ◌≤◌, Bool, true, false, cond, ◌||◌, List, [], ◌∷◌, ◌++◌, length, ℤ, Some, None, Ok, Err, Option, Result, ◌==◌, nat_le, refl}
+use Rattle.std.proofs.Common.{sym, subst, ◌∙◌, add-one, lit≤, length-append}
 use Rattle.std.proofs.lemmas.Bool.{leb-true, leb-false}
 use Rattle.source.specs.declared.sources.Ending.{Ending as SourceEnding}
 use Rattle.text.specs.Numbers.{number}
@@ -55,7 +55,7 @@ abbrev Short : List ℕ → Type 0
 Short bs = length bs ≤ 1024
 
 short_added : (bs cs : List ℕ) → Makes Short (added bs cs)
-short_added bs cs = makes_whether Short (nat_le (length bs + length cs) 1024) (pure (bs ++ cs)) (refuse TextTooLong) (λ t p xs e. let l = leb-true (length bs + length cs) 1024 t in omega (arith, length-append bs cs)) (λ f p xs e. tt)
+short_added bs cs = makes_whether Short (nat_le (length bs + length cs) 1024) (pure (bs ++ cs)) (refuse TextTooLong) (λ t p xs e. subst (λ n. n ≤ 1024) (sym (length-append bs cs)) (leb-true (length bs + length cs) 1024 t)) (λ f p xs e. tt)
 
 short_plain : (bs : List ℕ) → Short bs → Makes Short (plain bs)
 short_plain bs h p [] e = h
@@ -63,7 +63,7 @@ short_plain bs h p (x ∷ xs) e =
     made_cond Short (ends_plain_lem x) (pure bs p (x ∷ xs) e) _ (λ _. h)
     (λ _. made_then Short (step_gives p (x ∷ xs) e) _
     (made_cond Short (nat_le 1024 (length bs)) (Err (TextTooLong (p + 1))) (plain (bs ++ x ∷ []) (p + 1) xs e) (λ _. tt)
-    (λ f. let l = leb-false 1024 (length bs) f in short_plain (bs ++ x ∷ []) (omega (arith, length-append bs (x ∷ []))) (p + 1) xs e)))
+    (λ f. short_plain (bs ++ x ∷ []) (subst (λ n. n ≤ 1024) (sym (length-append bs (x ∷ []) ∙ add-one (length bs))) (leb-false 1024 (length bs) f)) (p + 1) xs e)))
 
 short_extended : (bs : List ℕ) (x : ℕ) → Makes Short (extended bs x)
 short_extended bs x = makes_after (λ _. Unit {0}) Short (piece x) (added bs) (short_added bs)
@@ -79,7 +79,7 @@ short_within (suc n) q bs h p xs e =
 
 short_from : (q : ℕ) → Makes Short (quoted_from q [])
 unfolding quoted_from
-short_from q p xs e = short_within (suc (length xs)) q [] (omega arith) p xs e
+short_from q p xs e = short_within (suc (length xs)) q [] (lit≤ tt) p xs e
 
 abbrev Text : List ℕ → Type 0
 Text bs = (length bs ≤ 1024) × (utf8 bs ≡ true)
@@ -93,7 +93,7 @@ either bs None h = h
 
 fit_unquoted : (x : ℕ) → Makes Fit (unquoted x)
 fit_unquoted x =
-    makes_on Short Fit (plain (x ∷ [])) _ (short_plain (x ∷ []) (omega arith))
+    makes_on Short Fit (plain (x ∷ [])) _ (short_plain (x ∷ []) (lit≤ tt))
     (λ bs h. makes_on Text Fit (whole_text bs) (λ text. pure (integer_or_string text (number text))) (whole bs h) (λ text t p xs e. either text (number text) t))
 
 fit_quoted : (q : ℕ) → Makes Fit (quoted q)

@@ -1,8 +1,7 @@
 -- Readings, computed.
 use Rattle.std.specs.Prelude.{◌≡◌, ℕ, List, [], ◌∷◌, ◌++◌, replicate, pos, None, codes}
-use Rattle.source.specs.declared.sources.Ending.{Ending as SourceEnding}
 use Rattle.source.specs.declared.sources.Ending.TheVariants.{End, Fault}
-use Rattle.stream.specs.Streams.{Ev, Stream, stream}
+use Rattle.stream.specs.Streams.{Ev, stream}
 use Rattle.stream.specs.declared.errors.Error.{Error}
 use Rattle.stream.specs.declared.errors.Error.TheVariants.{Io, TextTooLong, UnclosedString, IncompleteComment, InvalidUtf8AsciiStream, InvalidOctalString, InvalidUtf16String}
 use Rattle.stream.specs.declared.sources.Ending.{Ending}

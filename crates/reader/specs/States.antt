@@ -8,7 +8,7 @@ use Rattle.stream.specs.Events.{event, text_length_lem}
 use Rattle.stream.specs.Streams.{Ev}
 use Rattle.stream.specs.declared.errors.Error.{Error}
 use Rattle.stream.specs.declared.events.Event.{Event}
-use Rattle.reader.specs.Steps.{Done, Run, fetched, step_gives, past}
+use Rattle.reader.specs.Steps.{Run, fetched, step_gives, past}
 use Rattle.reader.specs.Tokens.{Item, token, passed_over}
 use Rattle.reader.specs.declared.ascii_reader.AsciiReader.{AsciiReader}
 use Rattle.reader.specs.declared.states.Lookahead.{Lookahead}

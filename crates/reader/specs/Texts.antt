@@ -1,5 +1,5 @@
 -- Texts: plain tokens, quoted texts and their escapes.
-use Rattle.std.specs.Prelude.{ℕ, zero, suc, ◌+◌, Bool, false, cond, ◌&&◌, ◌||◌, List, [], ◌∷◌, ◌++◌, length, ℤ, Some, None, Ok, Err, Option, ◌==◌, nat_le}
+use Rattle.std.specs.Prelude.{ℕ, zero, suc, ◌+◌, Bool, false, cond, ◌&&◌, ◌||◌, List, [], ◌∷◌, ◌++◌, length, ℤ, Some, None, Err, Option, ◌==◌, nat_le}
 use Rattle.text.specs.Digits.{numeral}
 use Rattle.text.specs.Nextstep.{nextstep}
 use Rattle.text.specs.Numbers.{number}

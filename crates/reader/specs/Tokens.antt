@@ -1,5 +1,5 @@
 -- What stands in a list of bytes: blanks, comments and tokens.
-use Rattle.std.specs.Prelude.{ℕ, Bool, ◌||◌, List, [], ◌∷◌, Some, None, Option, ◌==◌}
+use Rattle.std.specs.Prelude.{ℕ, Bool, ◌||◌, Some, None, Option, ◌==◌}
 use Rattle.stream.specs.Streams.{Ev}
 use Rattle.stream.specs.declared.errors.Error.TheVariants.{IncompleteComment}
 use Rattle.reader.specs.Comments.{line_comment_lem, block_comment_lem}

@@ -1,6 +1,6 @@
 -- What a list of events means is fit.
-use Rattle.std.specs.Prelude.{◌≡◌, ℕ, ◌≤◌, Bool, true, false, cond, List, [], ◌∷◌, length, Some, None, Option, nat_le, refl}
-use Rattle.std.proofs.Common.{arith}
+use Rattle.std.specs.Prelude.{◌≡◌, ℕ, ◌≤◌, Bool, true, false, cond, List, [], ◌∷◌, length, Some, None, Option, nat_le, is_some, refl}
+use Rattle.std.proofs.Common.{ap, true≢false}
 use Rattle.std.proofs.lemmas.Bool.{leb-true}
 use Rattle.text.specs.Utf8.{utf8}
 use Rattle.stream.specs.declared.errors.Error.{Error}
@@ -11,11 +11,11 @@ use Rattle.stream.specs.Streams.{Ev, first, Fit, EachFit}
 -- the tests of `unfit`, passed
 passed : (n : ℕ) (bs : List ℕ) (b : Bool) (o : Option Error) → nat_le (length bs) 1024 ≡ b → cond b o (Some (Error.TextTooLong n)) ≡ None → (length bs ≤ 1024) × (o ≡ None)
 passed n bs true o is none = (leb-true (length bs) 1024 is, none)
-passed n bs false o is none = let never : ◌≡◌ {A = ℕ} 0 1 = cc in absurd (omega arith)
+passed n bs false o is none = absurd (true≢false (ap is_some none))
 
 text_passed : (n : ℕ) (b : Bool) → cond b None (Some (Error.InvalidUtf8AsciiStream n)) ≡ None → b ≡ true
 text_passed n true none = refl
-text_passed n false none = let never : ◌≡◌ {A = ℕ} 0 1 = cc in absurd (omega arith)
+text_passed n false none = absurd (true≢false (ap is_some none))
 
 -- an event that is not refused is fit
 pub fit_event : (n : ℕ) (ev : Ev) → unfit n ev ≡ None → Fit ev
