@@ -9,6 +9,7 @@ use report::batches::batch_of;
 use report::bytes::bytes_of;
 use report::readings::events_of;
 use std::io::Read;
+use std::process::ExitCode;
 use std::{env, fs};
 use troubles::Trouble;
 
@@ -107,12 +108,12 @@ fn run(rt: &HostRuntime) -> Result<(), Trouble> {
     }
 }
 
-fn main(rt: HostRuntime) -> Result<(), Trouble> {
+fn main(rt: HostRuntime) -> ExitCode {
     match run(&rt) {
-        Ok(()) => Ok(()),
+        Ok(()) => ExitCode::SUCCESS,
         Err(trouble) => {
             let _ = eprintln!(rt; "attrs: {trouble}");
-            Err(trouble)
+            ExitCode::FAILURE
         }
     }
 }

@@ -4,7 +4,7 @@ use Rattle.std.proofs.lemmas.Slice.{between_to_end}
 use Rattle.std.proofs.lemmas.Bool.Decides.{nat_tests}
 use Rattle.std.specs.Option.{option_map}
 use Rattle.text.specs.Digits.{digit_of}
-use Rattle.report.specs.Hex.{hex_digit_lem, hex, byte_of, before, from_hex, Bytes, ReadsBack}
+use Rattle.report.specs.Hex.{hex_digit_lem, hex, byte_of, before, from_hex, ReadsBack}
 
 digit_back : (n : ℕ) → n < 16 → digit_of 16 (hex_digit_lem n) ≡ Some n
 digit_back n h = grind (arith, nat_tests)

@@ -1,4 +1,4 @@
-use Rattle.std.proofs.Common.{ℕ, List, vec_items, sym, ap, ◌∙◌, arith, length-drop, length-take, rules}
+use Rattle.std.proofs.Common.{vec_items, sym, ap, ◌∙◌, arith, length-drop, length-take, rules}
 use Rattle.std.specs.Option.{option_map}
 use Rattle.report.proofs.Cuts.{stopped, went_on, all_answered}
 use Rattle.report.proofs.batches.batch_of.Goals as goal

@@ -1,4 +1,4 @@
-use Rattle.std.proofs.Common.{◌≡◌, ℕ, ◌+◌, List, [], drop, ap, ◌∙◌, arith, drop_of_length-le}
+use Rattle.std.proofs.Common.{◌≡◌, [], drop, ap, arith, drop_of_length-le}
 use Rattle.report.specs.Batches.{line_length_lem}
 use Rattle.report.proofs.Cuts.{at_feed, past_byte}
 use Rattle.report.proofs.batches.line_length.Goals as goal

@@ -1,9 +1,7 @@
-use Rattle.std.proofs.Common.{◌≡◌, ℕ, min, List, ◌++◌, length, take, vec_items, codes, sym, refl, ap, ◌∙◌}
+use Rattle.std.proofs.Common.{◌≡◌, ℕ, min, List, ◌++◌, length, vec_items, codes, refl, ap, ◌∙◌}
 use lib.Ieee.{to_bits, binary64}
-use Rattle.stream.specs.Events.{event, text_length_lem}
-use Rattle.stream.specs.declared.events.Event.{Event}
+use Rattle.stream.specs.Events.{text_length_lem}
 use Rattle.stream.specs.declared.events.Event.TheVariants.{StartDictionary, EndCollection, Data, Real, String}
-use Rattle.report.specs.Events.{event_text}
 use Rattle.report.specs.Hex.{hex, eight_bytes}
 use Rattle.report.proofs.Parts.{front, event_added}
 use Rattle.report.proofs.events.push_event.Goals as goal

@@ -1,4 +1,4 @@
-use Rattle.std.proofs.Common.{◌≡◌, ℕ, true, false, sym, refl, ◌∙◌, arith}
+use Rattle.std.proofs.Common.{◌≡◌, ℕ, true, sym, refl, ◌∙◌, arith}
 use lib.Ieee.{Float, nan, inf, fin, is_nan, to_bits, binary64}
 use Rattle.report.proofs.events.real_bits.Goals as goal
 
