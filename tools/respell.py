@@ -3,7 +3,7 @@
 
 Run once, at the top, after the kit's port.py. Types, and modules' facts, go to upper camel case (`Token-by-token`
 becomes `TokenByToken`); every other name goes to snake case (`buffer-bytes` becomes `buffer_bytes`), with `_lem`
-behind it where a function of the code has that name. Names that Rattle makes (goals, steps) and names of the code
+behind it where a function of the code has that name (but for fields and constructors). Names that Rattle makes (goals, steps) and names of the code
 are left alone, as is text in quotes.
 """
 import glob
@@ -71,7 +71,15 @@ def main():
     files = glob.glob("crates/*/specs/**/*.antt", recursive=True) + glob.glob("crates/*/proofs/**/*.antt", recursive=True)
     files += glob.glob("crates/*/src/**/*.rt", recursive=True) + glob.glob("docs/*.md") + ["README.md"]
     files += glob.glob("crates/*/must-fail/*.edit")
-    one = lambda m: names.get(m.group(0), m.group(0))
+
+    def one(m):
+        name, text = m.group(0), m.string
+        # a field or a constructor stands with its record or type, beside no function
+        line = text[text.rfind("\n", 0, m.start()) + 1 : m.start()]
+        declares = "/specs/" in path and re.fullmatch(r" +(pub )?", line) and text.startswith(" :", m.end())
+        inner = line.endswith(".") or declares
+        return respelled(name, set()) if name in names and inner else names.get(name, name)
+
     changed = 0
     for path in files:
         if path == "docs/PORT.md":

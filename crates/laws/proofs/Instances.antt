@@ -43,7 +43,7 @@ module _ (decides : (bs : List ℕ) → Decides (utf8 bs) (Utf8 bs)) (notation :
   comments : Lists (codes "/***/5 //") (Ev.Integer (pos 5) ∷ [])
   unfolding utf8 number
   comments =
-      Items.skip {bytes = codes "/***/"} {rest = codes "5 //"} (Skipped.block_comment_lem (record { body = codes "*"; parts = refl; first = without_cons 42 [] without_nil (λ zs e w. star-alone zs w) }))
+      Items.skip {bytes = codes "/***/"} {rest = codes "5 //"} (Skipped.block_comment (record { body = codes "*"; parts = refl; first = without_cons 42 [] without_nil (λ zs e w. star-alone zs w) }))
       (Items.token {bytes = codes "5"} {rest = codes " //"} (one_byte 53 (codes " //") (Ev.Integer (pos 5)) refl refl refl (digit 53 (pos 5) refl) (one_of_true plain_ends 32 refl))
       (Items.skip {bytes = codes " "} {rest = codes "//"} (Skipped.separator (one_of_true separators 32 refl))
       (Items.last (inr (record { body = []; parts = refl; one_line = tt })))))

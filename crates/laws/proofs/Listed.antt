@@ -57,8 +57,8 @@ skipped_on (Skipped.separator {x} {rest} o) p q e s w l =
     item_on p x rest e (omega arith) s
     ∙ ap (λ b. cond b (pure passed_over (p + 1) rest e) (whether (eqb x 40) (pure (token (Ev.StartArray None))) (whether (eqb x 123) (pure (token (Ev.StartDictionary None))) (whether (eqb x 41 || eqb x 125) (pure (token Ev.EndCollection)) (whether (eqb x 39 || eqb x 34) (as_token (quoted x)) (whether (eqb x 47) potential_comment_lem (as_token (unquoted x)))))) (p + 1) rest e)) (sym (separator_is x) ∙ one_of_since separators x o)
     ∙ at_position passed_over (p + 1) q rest (omega arith)
-skipped_on (Skipped.line_comment_lem {bytes} {rest} c n) p q e s w l = line_item_on bytes rest c (line_feed_ends rest n) p q e s w l
-skipped_on (Skipped.block_comment_lem {bytes} {rest} c) p q e s w l = block_item_on bytes rest c p q e s w l
+skipped_on (Skipped.line_comment {bytes} {rest} c n) p q e s w l = line_item_on bytes rest c (line_feed_ends rest n) p q e s w l
+skipped_on (Skipped.block_comment {bytes} {rest} c) p q e s w l = block_item_on bytes rest c p q e s w l
 
 -- a byte that nothing else begins with
 begun_other : (x p : ℕ) (xs : List ℕ) (e : Ending) → (OneOf no_plain_begins x → ⊥) → begun x p xs e ≡ whether (eqb x 47) potential_comment_lem (as_token (unquoted x)) p xs e
@@ -127,8 +127,8 @@ line_feed_more (x ∷ rest) more h = h
 
 skipped_more : {bytes rest : List ℕ} → Skipped bytes rest → (more : List ℕ) → Skipped bytes (rest ++ more)
 skipped_more (Skipped.separator o) more = Skipped.separator o
-skipped_more (Skipped.line_comment_lem {bytes} {rest} c n) more = Skipped.line_comment_lem c (line_feed_more rest more n)
-skipped_more (Skipped.block_comment_lem c) more = Skipped.block_comment_lem c
+skipped_more (Skipped.line_comment {bytes} {rest} c n) more = Skipped.line_comment c (line_feed_more rest more n)
+skipped_more (Skipped.block_comment c) more = Skipped.block_comment c
 
 module _ (decides : (bs : List ℕ) → Decides (utf8 bs) (Utf8 bs)) (notation : Notation) where
   whole_on : (bs : List ℕ) (p : ℕ) (xs : List ℕ) (e : Ending) → Utf8 bs → whole_text bs p xs e ≡ done bs p xs

@@ -47,7 +47,7 @@ AsItem xs d = ItemRead d.value xs d.left
 -- comments
 line_ends : (bytes left : List ℕ) → LineComment bytes → EndsLine left → Skipped bytes left ⊎ (LineComment bytes × (left ≡ []))
 line_ends bytes [] c h = inr (c, refl)
-line_ends bytes (x ∷ left) c h = inl (Skipped.line_comment_lem c h)
+line_ends bytes (x ∷ left) c h = inl (Skipped.line_comment c h)
 
 line_read : (y : ℕ) (ys left body : List ℕ) → y ≡ 47 → y ∷ ys ≡ body ++ left → Each (λ x. x ≢ 10) body → EndsLine left → SkippedRead (47 ∷ y ∷ ys) left
 line_read y ys left [] e w each ends =
@@ -67,7 +67,7 @@ block_read y ys left e h =
     record {
       bytes = 47 ∷ y ∷ (h.body ++ codes "*/");
       splits = ap (λ zs. 47 ∷ y ∷ zs) (h.splits ∙ sym (append_assoc h.body (codes "*/") left));
-      skipped = inl (Skipped.block_comment_lem (record { body = h.body; parts = ap (λ i. 47 ∷ i ∷ (h.body ++ codes "*/")) e; first = h.without }));
+      skipped = inl (Skipped.block_comment (record { body = h.body; parts = ap (λ i. 47 ∷ i ∷ (h.body ++ codes "*/")) e; first = h.without }));
     }
 
 behind_star : (p y : ℕ) (ys : List ℕ) (e : Ending) (s : Result (Option ℕ) Error) → WhereOk (λ d. Block Comment.Plain ys d.left) (onward (stepped s p (y ∷ ys) e) (λ _. in_comment Comment.Plain) e)

@@ -139,8 +139,8 @@ LineFeedFirst (x ∷ xs) = x ≡ code "\n"
 -- Bytes that stand for nothing, and what follows them in the list: a separator, or a comment. The line feed that ends a line comment is a separator behind it.
 pub data Skipped : List ℕ → List ℕ → Type 0 where
   separator : {x : ℕ} {rest : List ℕ} → OneOf separators x → Skipped (x ∷ []) rest
-  line_comment_lem : {bytes rest : List ℕ} → LineComment bytes → LineFeedFirst rest → Skipped bytes rest
-  block_comment_lem : {bytes rest : List ℕ} → BlockComment bytes → Skipped bytes rest
+  line_comment : {bytes rest : List ℕ} → LineComment bytes → LineFeedFirst rest → Skipped bytes rest
+  block_comment : {bytes rest : List ℕ} → BlockComment bytes → Skipped bytes rest
 
 -- Tokens with their events, separators and comments, one after another, and what may stand last.
 pub data Items (Last : List ℕ → Type 0) : List ℕ → List Ev → Type 0 where

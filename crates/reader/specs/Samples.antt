@@ -41,7 +41,7 @@ pub record Samples : Type 0 where
   pub quoted_digits : in_quotes (codes "12") reads Ev.String (codes "12") ∷ []
   pub quoted_quote : in_quotes (codes "\\\"") reads Ev.String (34 ∷ []) ∷ []
   pub line_feed : 97 ∷ 10 ∷ 98 ∷ [] reads Ev.String (97 ∷ []) ∷ Ev.String (98 ∷ []) ∷ []
-  pub line_comment_lem : 47 ∷ 47 ∷ 97 ∷ 10 ∷ 98 ∷ [] reads Ev.String (98 ∷ []) ∷ []
+  pub line_comment : 47 ∷ 47 ∷ 97 ∷ 10 ∷ 98 ∷ [] reads Ev.String (98 ∷ []) ∷ []
   pub unclosed : codes "'a" refused UnclosedString 2
   pub unknown_escape : in_quotes (codes "\\q") refused InvalidUtf8AsciiStream 3
   pub not_utf8 : 255 ∷ [] refused InvalidUtf8AsciiStream 1

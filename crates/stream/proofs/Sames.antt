@@ -5,14 +5,14 @@ use Rattle.std.specs.Cmp.{unsigned_Decides}
 use Rattle.std.specs.Option.{option_eq, unwrap_or}
 use Rattle.std.specs.Prelude.{◌==◌}
 use Rattle.std.proofs.lemmas.Bool.{and_parts, and_from}
-use Rattle.stream.specs.Equals.{same_kind, same_error, kind_decides, error_decides}
+use Rattle.stream.specs.Equals.{equal_kind, equal_error, kind_decides, error_decides}
 use Rattle.stream.specs.Errors.{number_of, position_of, code_of, expected_of, found_of}
 use Rattle.stream.specs.contracts.kinds.EventKindPartialEq.TheImpl.{ghosts}
 use Rattle.stream.specs.declared.errors.Error.{Error}
 use Rattle.stream.specs.declared.kinds.EventKind.{EventKind}
 
 -- the kinds' own test
-kinds_eq : (a b : EventKind) → ghosts.eq a b ≡ same_kind a b
+kinds_eq : (a b : EventKind) → ghosts.eq a b ≡ equal_kind a b
 kinds_eq EventKind.StartArray EventKind.StartArray = refl
 kinds_eq EventKind.StartDictionary EventKind.StartDictionary = refl
 kinds_eq EventKind.EndCollection EventKind.EndCollection = refl
@@ -140,11 +140,11 @@ module _ (x y : Error) where
       ((option_decides ghosts.eq kinds_decide (found_of x) (found_of y)).1 (ap found_of s)))
       ((option_decides ◌==◌ unsigned_Decides (position_of x) (position_of y)).1 (ap position_of s))
 
-  pub parts_error : same_parts ≡ same_error x y
-  parts_error = one_answer same_parts (same_error x y) (parts_only, parts_from) (error_decides x y)
+  pub parts_error : same_parts ≡ equal_error x y
+  parts_error = one_answer same_parts (equal_error x y) (parts_only, parts_from) (error_decides x y)
 
   -- a test with that answer decides it
-  pub error_decided : (r : Bool) → r ≡ same_error x y → Decides r (x ≡ y)
+  pub error_decided : (r : Bool) → r ≡ equal_error x y → Decides r (x ≡ y)
   error_decided r e = subst (λ (b : Bool). Decides b (x ≡ y)) (sym e) (error_decides x y)
 
 -- what `&&` answers, by its two branches

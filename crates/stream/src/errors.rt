@@ -2,7 +2,7 @@
 ghost use Rattle.std.specs.Prelude.{◌≡◌, Some, Decides};
 ghost use Rattle.stream.specs.Errors.{number_of, position_of, code_of, expected_of, found_of, name_of, refusal_text};
 ghost use Rattle.std.specs.Cmp.{partial_equiv_from_equiv};
-ghost use Rattle.stream.specs.Equals.{same_error, error_laws};
+ghost use Rattle.stream.specs.Equals.{equal_error, error_laws};
 
 use crate::kinds::EventKind;
 use crate::labels::Labelled;
@@ -157,12 +157,12 @@ impl Error {
 }
 
 impl PartialEq for Error {
-    ghost eq = { same_error };
+    ghost eq = { equal_error };
 
     ghost laws = { partial_equiv_from_equiv error_laws };
 
     fn eq(&self, other: &Error) -> bool
-        ensures value { result ≡ same_error self.now other.now }
+        ensures value { result ≡ equal_error self.now other.now }
         ensures same { Decides result (self.now ≡ other.now) }
     {
         self.number() == other.number()

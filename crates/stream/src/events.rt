@@ -2,7 +2,7 @@
 ghost use Rattle.std.specs.Prelude.{◌≡◌, Decides};
 ghost use Rattle.stream.specs.Events.{kind_of, text_length_lem};
 ghost use Rattle.std.specs.Cmp.{partial_equiv_from_equiv};
-ghost use Rattle.stream.specs.Equals.{same_event, event_laws};
+ghost use Rattle.stream.specs.Equals.{equal_event, event_laws};
 
 use crate::kinds::EventKind;
 use crate::uid::Uid;
@@ -65,12 +65,12 @@ fn same_real(a: f64, b: f64) -> bool
 
 // Two events are equal where they are the same. So a Real that is not a number equals itself, and 0.0 and -0.0 are two.
 impl PartialEq for Event {
-    ghost eq = { same_event };
+    ghost eq = { equal_event };
 
     ghost laws = { partial_equiv_from_equiv event_laws };
 
     fn eq(&self, other: &Event) -> bool
-        ensures value { result ≡ same_event self.now other.now }
+        ensures value { result ≡ equal_event self.now other.now }
         ensures same { Decides result (self.now ≡ other.now) }
     {
         match *self {

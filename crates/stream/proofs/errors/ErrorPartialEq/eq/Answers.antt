@@ -1,7 +1,7 @@
 use Rattle.std.proofs.Common.{◌≡◌, ◌&&◌, ◌==◌, sym, refl, ◌∙◌, rules}
 use Rattle.std.proofs.lemmas.Bool.{ne_eqb}
 use Rattle.std.specs.Cmp.{unsigned_Decides}
-use Rattle.stream.specs.Equals.{same_error}
+use Rattle.stream.specs.Equals.{equal_error}
 use Rattle.stream.specs.Errors.{number_of}
 use Rattle.stream.proofs.Sames.{same_number, same_code, same_expected, same_found, same_position, in_parts, parts_error, error_decided, both, first_not}
 use Rattle.stream.proofs.errors.ErrorPartialEq.eq.Goals as goal
@@ -27,7 +27,7 @@ returns-then-eq-3 c =
       | else-eq-2 w ↦ first_not c.if-eq.value (same_found x y) c.if-eq-2.value w.if-eq-2.false w.value-is
     ] in
     let p : c.eq-then-eq-3.result ≡ (c.if-eq-2.value && same_position x y) = both c.if-eq-2.value (same_position x y) c.eq-then-eq-3.result c.if-eq-3.true (search rules) in
-    let value : c.eq-then-eq-3.result ≡ same_error x y = in_parts x y c.if-number.value c.if-eq.value c.if-eq-2.value c.eq-then-eq-3.result n e f p ∙ parts_error x y in
+    let value : c.eq-then-eq-3.result ≡ equal_error x y = in_parts x y c.if-number.value c.if-eq.value c.if-eq-2.value c.eq-then-eq-3.result n e f p ∙ parts_error x y in
     record { value = value; same = error_decided x y c.eq-then-eq-3.result value }
 
 pub returns-else-eq-3 : goal.returns-else-eq-3
@@ -50,5 +50,5 @@ returns-else-eq-3 c =
       | else-eq-2 w ↦ first_not c.if-eq.value (same_found x y) c.if-eq-2.value w.if-eq-2.false w.value-is
     ] in
     let p : c.if-eq-2.value ≡ (c.if-eq-2.value && same_position x y) = first_not c.if-eq-2.value (same_position x y) c.if-eq-2.value c.if-eq-3.false refl in
-    let value : c.if-eq-2.value ≡ same_error x y = in_parts x y c.if-number.value c.if-eq.value c.if-eq-2.value c.if-eq-2.value n e f p ∙ parts_error x y in
+    let value : c.if-eq-2.value ≡ equal_error x y = in_parts x y c.if-number.value c.if-eq.value c.if-eq-2.value c.if-eq-2.value n e f p ∙ parts_error x y in
     record { value = value; same = error_decided x y c.if-eq-2.value value }
