@@ -1,25 +1,13 @@
 -- Bytes held in a part of a block, and a block filled from below.
-use Rattle.std.proofs.Common.{◌≡◌, ℕ, suc, ◌+◌, ◌-◌, ◌<◌, ◌≤◌, min, ◌⊎◌, List, [], ◌∷◌, ◌++◌, length, get_or, take, drop, Some, None, Ok, Err, Option, Result, sym, refl, ap, ◌∙◌, inl, inr, arith, length-drop, take-append-drop, drop_of_length-le, length-take, take_all, take_at, drop_at}
-use Rattle.std.proofs.lemmas.List.{drop_more, append-nil, nil_from_length}
-use Rattle.source.specs.Asking.{Asked, ended, first, rest}
-use Rattle.source.specs.Buffers.{part, Ahead}
-use Rattle.source.specs.declared.sources.Ending.{Ending}
-use Rattle.source.specs.declared.sources.Ending.TheVariants.{End, Fault}
-
--- a part from the start
-pub part_from : (block : List ℕ) (start stop : ℕ) → start ≡ 0 → part block start stop ≡ take stop block
-part_from block start stop e =
-    let z : stop - 0 ≡ stop = omega arith in
-    ap (λ n. part block n stop) e ∙ ap (λ n. take n block) z
-
--- an empty part
-pub part_none : (block : List ℕ) (start stop : ℕ) → min stop (length block) ≤ start → part block start stop ≡ []
-part_none block start stop h =
-    let short : length (part block start stop) ≡ 0 = simp (length-take, length-drop) (omega arith) in
-    nil_from_length (part block start stop) short
+use Rattle.std.proofs.Common.{◌≡◌, ℕ, suc, ◌+◌, ◌-◌, ◌<◌, ◌≤◌, ◌⊎◌, List, [], ◌∷◌, ◌++◌, length, get_or, take, drop, slice_range, Ok, Err, sym, refl, ap, ◌∙◌, inl, inr, arith, take-append-drop, drop_of_length-le, length-append, length-take, take_all, take_at, drop_at}
+use Rattle.std.proofs.lemmas.List.{drop_more, append-nil}
+use Rattle.source.specs.Asking.{Asked, answer, ended, first, rest}
+use Rattle.source.specs.Buffers.{Ahead, Filled}
+use Rattle.source.specs.declared.sources.Fault.{Fault}
+use Rattle.source.specs.Endings.{Ending, at_end}
 
 -- the first byte of a part, and the others
-pub part_some : (block : List ℕ) (start stop : ℕ) → start < stop → start < length block → part block start stop ≡ get_or block start 0 ∷ part block (start + 1) stop
+pub part_some : (block : List ℕ) (start stop : ℕ) → start < stop → start < length block → slice_range block start stop ≡ get_or block start 0 ∷ slice_range block (start + 1) stop
 part_some block start stop h room =
     let z : stop - start ≡ suc (stop - (start + 1)) = omega arith in
     ap (λ xs. take (stop - start) xs) (drop_more block start 0 room) ∙ ap (λ n. take n (get_or block start 0 ∷ drop (start + 1) block)) z
@@ -33,22 +21,39 @@ cut n held below bs is fits (inr none) =
     let fits' : length bs ≤ n = rw (sym all) fits in
     (all ∙ sym (take_all n bs fits'), none ∙ sym (drop_of_length-le bs fits'))
 
--- asked while bytes are held
-pub asked_held : (held low : List ℕ) {held' low' : List ℕ} {e e' : Ending} (b : ℕ) → Some b ≡ first held → held' ≡ rest held → low' ≡ low → e' ≡ e → Asked (held ++ low) e (Ok (Some b)) (held' ++ low') e' × Ahead held low held' low'
-asked_held [] low b is p q k = absurd (let z : ◌≡◌ {A = ℕ} 0 1 = cc in omega arith)
-asked_held (x ∷ xs) low b is p q k = (record { gives = ap Ok is; leaves = cc; keeps = k }, (p, q))
+-- a block of which n bytes are filled, and low stays below, once it is full or nothing is left
+pub filled : {bs bs' : List ℕ} {e e' : Ending} (n : ℕ) (block block' low : List ℕ) → take n block ++ low ≡ bs → take n block' ≡ take n block → length block ≡ 64 → n ≤ 64 → (n ≡ 64) ⊎ (low ≡ []) → bs' ≡ low → e' ≡ e → (n ≡ 0 → e ≡ at_end) → Filled bs e (Ok n) block' bs' e'
+filled {bs} n block block' low is put long fits over leaves same last =
+    let size : length (take n block) ≡ n = simp length-take (omega arith) in
+    let ends = cut 64 (take n block) low bs is (omega arith) (elim over [ inl full ↦ inl (size ∙ full) | inr none ↦ inr none ]) in
+    record {
+      holds = put ∙ ends.0;
+      leaves = leaves ∙ ends.1;
+      keeps = same;
+      reports = λ none. last (let few : length (take n block) + length low ≡ 0 = simp (← length-append) (ap length (is ∙ none)) in omega arith);
+    }
 
-module _ {r : Result (Option ℕ) ℕ} {held' low' : List ℕ} {e' : Ending} where
-  -- asked while none are, once a block has come
-  pub asked_filled : (held low : List ℕ) {e : Ending} → None ≡ first held → (low ≡ [] → e ≡ End) → r ≡ Ok (first (take 64 low)) → held' ≡ rest (take 64 low) → low' ≡ drop 64 low → e' ≡ e → Asked (held ++ low) e r (held' ++ low') e' × Ahead held low held' low'
-  asked_filled (x ∷ xs) low none ends is p q k = absurd (let z : ◌≡◌ {A = ℕ} 0 1 = cc in omega arith)
-  asked_filled [] [] none ends is p q k = (record { gives = is ∙ ap ended (sym (ends refl)); leaves = cc; keeps = k }, (p, q))
-  asked_filled [] (x ∷ xs) none ends is p q k =
-      let joined = take-append-drop 63 xs in
-      (record { gives = is; leaves = cc; keeps = k }, (p, q))
+-- the first of the bytes that a block is filled with answers for them all
+answer_filled : (bs : List ℕ) (e : Ending) → (bs ≡ [] → e ≡ at_end) → Ok (first (take 64 bs)) ≡ answer bs e
+answer_filled [] e over = ap ended (sym (over refl))
+answer_filled (x ∷ xs) e over = refl
 
-  -- asked while none are, and nothing but a fault came
-  pub asked_faulted : (held low : List ℕ) {e : Ending} (code : ℕ) → None ≡ first held → low ≡ [] → e ≡ Fault code → r ≡ Err code → held' ≡ take 64 low → low' ≡ drop 64 low → e' ≡ e → Asked (held ++ low) e r (held' ++ low') e' × Ahead held low held' low'
-  asked_faulted (x ∷ xs) low code none gone fault is p q k = absurd (let z : ◌≡◌ {A = ℕ} 0 1 = cc in omega arith)
-  asked_faulted [] (x ∷ xs) code none gone fault is p q k = absurd (let z : ◌≡◌ {A = ℕ} 0 1 = cc in omega arith)
-  asked_faulted [] [] code none gone fault is p q k = (record { gives = is ∙ ap ended (sym fault); leaves = cc; keeps = k }, (p, q))
+-- and the others are the rest of them
+rest_filled : (bs : List ℕ) → rest (take 64 bs) ++ drop 64 bs ≡ rest bs
+rest_filled [] = refl
+rest_filled (x ∷ xs) = take-append-drop 63 xs
+
+-- asked while none are held, once a block is filled
+pub asked_filled : {n : ℕ} {bs block low held' : List ℕ} {e e' : Ending} (held : List ℕ) → held ≡ [] → Filled bs e (Ok n) block low e' → held' ≡ rest (slice_range block 0 n)
+    → Asked (held ++ bs) e (Ok (first (slice_range block 0 n))) (held' ++ low) e' × Ahead held bs held' low
+asked_filled {n} {bs} {block} {low} {held'} {e} {e'} held none f leaves =
+    let z : n - 0 ≡ n = omega arith in
+    let front : slice_range block 0 n ≡ take 64 bs = rw z f.holds in
+    rw (none, front) (record { gives = answer_filled bs e f.reports; leaves = rw (leaves, front, f.leaves) (rest_filled bs); keeps = f.keeps }, (rw (leaves, front) refl, f.leaves))
+
+-- asked while none are held, and nothing but a fault came
+pub asked_faulted : {bs block low held' : List ℕ} {e e' : Ending} (held : List ℕ) (fault : Fault) → held ≡ [] → Filled bs e (Err fault) block low e' → held' ≡ [] → Asked (held ++ bs) e (Err fault) (held' ++ low) e' × Ahead held bs held' low
+asked_faulted {bs} {block} {low} {held'} {e} {e'} held fault none f leaves =
+    let gone = f.reports.0 in
+    let over : low ≡ [] = rw gone at f.leaves in
+    rw (none, leaves, gone, over, f.reports.1) (record { gives = refl; leaves = refl; keeps = f.keeps ∙ f.reports.1 }, (refl, refl))

@@ -1,4 +1,2 @@
 pub mod Blocks
 pub mod Cards
-pub mod Firsts
-pub mod Told

@@ -1,7 +1,6 @@
 -- What a deck of 80-byte cards means.
 use Rattle.std.specs.Prelude.{ℕ, zero, suc, ◌/◌, ◌%◌, cond, List, [], ◌++◌, length, take, drop, ◌==◌}
-use Rattle.source.specs.declared.sources.Ending.{Ending}
-use Rattle.source.specs.declared.sources.Ending.TheVariants.{End, Fault}
+use Rattle.source.specs.Endings.{Ending, at_end, faulty}
 use Rattle.source.specs.declared.decks.Deck.{Deck}
 
 -- the first 72 bytes of each of n cards
@@ -15,7 +14,7 @@ card_texts xs = texts_of (length xs / 80) xs
 
 -- a part of a card behind the last whole one is fault 1
 abbrev pub cards_end : List ℕ → Ending
-cards_end xs = cond (length xs % 80 == 0) End (Fault 1)
+cards_end xs = cond (length xs % 80 == 0) at_end (faulty 1)
 
 abbrev pub deck_bytes : Deck → List ℕ
 deck_bytes d = d.text.now ++ card_texts (drop d.at d.cards.now)

@@ -1,10 +1,17 @@
 -- What it is to take all that a source has left.
-use Rattle.std.specs.Prelude.{◌≡◌, ℕ, List, [], ◌++◌, IfOk, Result}
-use Rattle.std.specs.declared.alloc.AllocError.{AllocError}
-use Rattle.source.specs.declared.sources.Ending.{Ending}
+use Rattle.std.specs.Prelude.{◌≡◌, ℕ, List, [], ◌++◌, Ok, Err, Result}
+use Rattle.source.specs.declared.drains.DrainError.{DrainError}
+use Rattle.source.specs.declared.drains.DrainError.TheVariants.{Fault, Memory}
+use Rattle.source.specs.Endings.{Ending, at_end}
 
--- a source with bs left and then e was drained behind the bytes out: none is lost, and an answer is the ending, with none left
-pub record Drained (out bs : List ℕ) (e : Ending) (r : Result Ending AllocError) (out' bs' : List ℕ) (e' : Ending) : Type 0 where
+-- P of the ending that a drain answers, if it came to one
+abbrev pub IfEnded : Result (Unit {0}) DrainError → (Ending → Type 0) → Type 0
+IfEnded (Ok u) P = P at_end
+IfEnded (Err (Fault f)) P = P (Err f)
+IfEnded (Err (Memory error)) P = Unit {0}
+
+-- a source with bs left and then e was drained behind the bytes out: none is lost, and an ending that is answered is e, with none left
+pub record Drained (out bs : List ℕ) (e : Ending) (r : Result (Unit {0}) DrainError) (out' bs' : List ℕ) (e' : Ending) : Type 0 where
   pub moves : out' ++ bs' ≡ out ++ bs
   pub keeps : e' ≡ e
-  pub ends : IfOk r (λ ending. (ending ≡ e) × (bs' ≡ []))
+  pub ends : IfEnded r (λ ending. (ending ≡ e) × (bs' ≡ []))

@@ -1,7 +1,6 @@
 -- What a source that repeats a byte has left.
 use Rattle.std.specs.Prelude.{ℕ, List, replicate}
-use Rattle.source.specs.declared.sources.Ending.{Ending}
-use Rattle.source.specs.declared.sources.Ending.TheVariants.{End}
+use Rattle.source.specs.Endings.{Ending, at_end}
 use Rattle.source.specs.declared.repeats.Repeated.{Repeated}
 
 -- one byte so many times. It is shut, so that a large number of them is not written out
@@ -12,4 +11,4 @@ abbrev pub repeated_bytes : Repeated → List ℕ
 repeated_bytes r = copies r.left r.byte
 
 abbrev pub repeated_ending : Repeated → Ending
-repeated_ending r = End
+repeated_ending r = at_end

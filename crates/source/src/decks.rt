@@ -2,7 +2,7 @@
 ghost use Rattle.std.specs.Prelude.{◌≡◌};
 ghost use Rattle.source.specs.Decks.{deck_bytes, deck_ending, card_texts, cards_end};
 
-use crate::sources::ByteSource;
+use crate::sources::{ByteSource, Fault};
 
 // The bytes of one card.
 const CARD: usize = 80;
@@ -11,12 +11,12 @@ const CARD: usize = 80;
 const TEXT: usize = 72;
 
 // The fault of a deck whose last card is cut short.
-const RAGGED: u8 = 1;
+const RAGGED: Fault = Fault { code: 1 };
 
 #[derive(Drop)]
 pub struct Deck<'a> {
     cards: &'a [u8],
-    // Where in the deck the next card starts.
+    // Where in the deck the next card starts. The slice stays whole, and each card is cut out of the middle of it.
     at: usize,
     // What is left of the text of the card before it.
     text: &'a [u8],
@@ -30,7 +30,7 @@ impl<'a> Deck<'a> {
         Deck {
             cards,
             at: 0,
-            text: &cards[0..0],
+            text: &[],
         }
     }
 }
@@ -40,8 +40,8 @@ impl<'a> ByteSource for Deck<'a> {
 
     ghost ending = { deck_ending };
 
-    fn next(&mut self) -> Result<Option<u8>, u8> {
-        if self.text.len() == 0 {
+    fn next(&mut self) -> Result<Option<u8>, Fault> {
+        if self.text.is_empty() {
             let left = self.cards.len().saturating_sub(self.at);
             if left == 0 {
                 return Ok(None);
@@ -52,8 +52,10 @@ impl<'a> ByteSource for Deck<'a> {
             self.text = &self.cards[self.at..self.at + TEXT];
             self.at += CARD;
         }
-        let b = self.text[0];
-        self.text = &self.text[1..];
-        Ok(Some(b))
+        let [b, text @ ..] = self.text else {
+            unreachable!()
+        };
+        self.text = text;
+        Ok(Some(*b))
     }
 }

@@ -1,9 +1,9 @@
 // A source that gives one byte many times and holds it once, for tests and scripts.
 ghost use Rattle.std.specs.Prelude.{◌≡◌};
-ghost use Rattle.source.specs.declared.sources.Ending.TheVariants.{End};
+ghost use Rattle.source.specs.Endings.{at_end};
 ghost use Rattle.source.specs.Repeats.{copies, repeated_bytes, repeated_ending};
 
-use crate::sources::ByteSource;
+use crate::sources::{ByteSource, Fault};
 
 #[derive(Drop)]
 pub struct Repeated {
@@ -14,7 +14,7 @@ pub struct Repeated {
 impl Repeated {
     pub fn new(byte: u8, count: u64) -> Repeated
         ensures bytes { repeated_bytes result ≡ copies count byte }
-        ensures ending { repeated_ending result ≡ End }
+        ensures ending { repeated_ending result ≡ at_end }
     {
         Repeated { byte, left: count }
     }
@@ -25,7 +25,8 @@ impl ByteSource for Repeated {
 
     ghost ending = { repeated_ending };
 
-    fn next(&mut self) -> Result<Option<u8>, u8> {
+    #[tactic(auto, unfolding(crate::specs::Repeats::copies))]
+    fn next(&mut self) -> Result<Option<u8>, Fault> {
         if self.left == 0 {
             return Ok(None);
         }

@@ -1,9 +1,9 @@
 // A source over lent bytes.
 ghost use Rattle.std.specs.Prelude.{◌≡◌};
-ghost use Rattle.source.specs.declared.sources.Ending.TheVariants.{End};
+ghost use Rattle.source.specs.Endings.{at_end};
 ghost use Rattle.source.specs.Slices.{slice_bytes, slice_ending};
 
-use crate::sources::ByteSource;
+use crate::sources::{ByteSource, Fault};
 
 #[derive(Drop)]
 pub struct SliceSource<'a> {
@@ -13,7 +13,7 @@ pub struct SliceSource<'a> {
 impl<'a> SliceSource<'a> {
     pub fn new(bytes: &'a [u8]) -> SliceSource<'a>
         ensures bytes { slice_bytes result ≡ bytes.now }
-        ensures ending { slice_ending result ≡ End }
+        ensures ending { slice_ending result ≡ at_end }
     {
         SliceSource { rest: bytes }
     }
@@ -24,12 +24,11 @@ impl<'a> ByteSource for SliceSource<'a> {
 
     ghost ending = { slice_ending };
 
-    fn next(&mut self) -> Result<Option<u8>, u8> {
-        if self.rest.len() == 0 {
+    fn next(&mut self) -> Result<Option<u8>, Fault> {
+        let [b, rest @ ..] = self.rest else {
             return Ok(None);
-        }
-        let b = self.rest[0];
-        self.rest = &self.rest[1..];
-        Ok(Some(b))
+        };
+        self.rest = rest;
+        Ok(Some(*b))
     }
 }
