@@ -1,17 +1,16 @@
 -- The test for UTF-8 answers what the syntax says.
 use Rattle.std.proofs.Common.{◌≡◌, ℕ, suc, ◌<◌, ◌≤◌, Bool, true, false, cond, ◌&&◌, leb, List, [], ◌∷◌, ◌++◌, Some, None, Decides, Option, sym, refl, ap, ◌∙◌, subst, arith}
 use Rattle.std.proofs.lemmas.List.{append_assoc}
-use Rattle.std.proofs.lemmas.Bool.{le-leb, lt-leb, leb-true, and_parts, and_from, false≢true}
-use Rattle.text.proofs.Scans.{goes_by}
+use Rattle.std.proofs.lemmas.Bool.Decides.{nat_tests}
+use Rattle.std.proofs.lemmas.Bool.{le-leb, lt-leb, leb-true, and_parts, false≢true}
 use Rattle.text.specs.Utf8.{Range, ◌to◌, inside, utf8_char, behind, goes_on, utf8, OfRow, none, more, OfTable, here, there, Utf8, empty, then}
 
 pub inside_parts : (low high b : ℕ) → inside (low to high) b ≡ true → (low ≤ b) × (b ≤ high)
-inside_parts low high b e =
-    let p = and_parts (leb low b) (leb b high) e in
-    (leb-true low b p.0, leb-true b high p.1)
+inside_parts low high b e = grind (arith, nat_tests)
 
-pub inside_from : (low high b : ℕ) → low ≤ b → b ≤ high → inside (low to high) b ≡ true
-inside_from low high b l h = and_from (leb low b) (leb b high) (le-leb low b l) (le-leb b high h)
+-- the scan of what is left, after one byte more
+abbrev goes_by : Option (List Range) → List ℕ → Bool
+goes_by o bs = elim o [ None ↦ false | Some left ↦ goes_on left bs ]
 
 -- From the test to the syntax.
 

@@ -5,7 +5,7 @@ mod Numerals
 mod Pairs
 pub mod Places
 pub mod Prefixes
-mod Scans
+mod Rows
 pub mod Tables
 pub mod Texts
 pub mod Writes

@@ -1,7 +1,6 @@
 -- Digits read one by one from the left come to their place value.
-use Rattle.std.proofs.Common.{◌≡◌, ℕ, ◌+◌, ◌*◌, ◌^◌, ◌<◌, ◌≤◌, Bool, true, false, cond, ltb, List, [], ◌∷◌, length, get_or, drop, Some, None, Option, sym, refl, ap, ◌∙◌, mul_assoc, add-mul, mul-le-mul_left, zero-mul, mul-one, arith}
+use Rattle.std.proofs.Common.{◌≡◌, ℕ, ◌+◌, ◌*◌, ◌^◌, ◌<◌, ◌≤◌, Bool, true, false, cond, ltb, List, [], ◌∷◌, length, Some, None, Option, sym, refl, ap, ◌∙◌, mul_assoc, add-mul, mul-le-mul_left, zero-mul, mul-one, arith}
 use native.Mathlib.Nat.{pow-zero, pow-succ', one-le-pow}
-use Rattle.std.proofs.lemmas.List.{at_drop_more, at_drop_all}
 use Rattle.std.proofs.lemmas.Bool.{lt-ltb, le-ltb, ltb-true, ltb-false}
 use Rattle.std.specs.Option.{option_map}
 use Rattle.text.specs.Digits.{digit_value, digit_of, all_digits, place_value, numeral}
@@ -67,20 +66,3 @@ reads_all base (b ∷ bs) some any = reads_is base 0 (b ∷ bs) some (omega arit
     all_same : (all : Bool) → cond all (fitting (Some (after base 0 (b ∷ bs)))) None ≡ fitting (cond all (Some (place_value base (b ∷ bs))) None)
     all_same true = ap (λ (v : ℕ). fitting (Some v)) e
     all_same false = refl
-
--- a loop that reads digit by digit: the digits from the i-th on, behind n, give what all of them give
-abbrev pub Reading : ℕ → List ℕ → ℕ → ℕ → Type 0
-Reading base bs n i = reads base n (drop i bs) ≡ reads base 0 bs
-
-module _ (base : ℕ) (bs : List ℕ) (n i : ℕ) (so_far : Reading base bs n i) where
-  ahead : i < length bs → onward (longer base n (get_or bs i 0)) (λ m. reads base m (drop (i + 1) bs)) ≡ reads base 0 bs
-  ahead within = sym (at_drop_more (reads base n) bs i 0 within) ∙ so_far
-
-  pub reading_more : (m : ℕ) → i < length bs → Some m ≡ longer base n (get_or bs i 0) → Reading base bs m (i + 1)
-  reading_more m within e = ap (λ (o : Option ℕ). onward o (λ k. reads base k (drop (i + 1) bs))) e ∙ ahead within
-
-  pub reading_breaks : 0 < base → i < length bs → None ≡ longer base n (get_or bs i 0) → None ≡ fitting (numeral base bs)
-  reading_breaks some within e = ap (λ (o : Option ℕ). onward o (λ k. reads base k (drop (i + 1) bs))) e ∙ ahead within ∙ reads_all base bs some (omega arith)
-
-  pub reading_ends : 0 < base → 0 < length bs → length bs ≤ i → Some n ≡ fitting (numeral base bs)
-  reading_ends some any end = sym (at_drop_all (reads base n) bs i end) ∙ so_far ∙ reads_all base bs some any

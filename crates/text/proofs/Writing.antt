@@ -1,6 +1,6 @@
 -- Number syntax and the relation that says how numbers are written are one.
-use Rattle.std.proofs.Common.{◌≡◌, ℕ, suc, ◌^◌, ◌<◌, Bool, true, false, cond, eqb, ltb, List, [], ◌∷◌, ◌++◌, length, drop, ℤ, pos, negsuc, Some, None, codes, Option, sym, refl, ap, ◌∙◌, arith, rules}
-use Rattle.std.proofs.lemmas.Bool.{and_parts, and_left, and_right, eqb-true, ne_eqb, both_ways, cond-true, cond-false}
+use Rattle.std.proofs.Common.{◌≡◌, ℕ, suc, ◌^◌, ◌<◌, Bool, true, false, eqb, ltb, List, [], ◌∷◌, ◌++◌, length, drop, ℤ, pos, negsuc, Some, None, codes, Option, sym, refl, ap, ◌∙◌, arith, rules}
+use Rattle.std.proofs.lemmas.Bool.{and_parts, eqb-true, cond-true, cond-false}
 use Rattle.std.proofs.lemmas.Bool.Decides.{nat_tests}
 use Rattle.std.proofs.lemmas.Str.Parse.{IsNumeralModel, numerals_by_weight}
 use Rattle.std.proofs.lemmas.Fmt.{digits_decimal, digits_value-decimal, decimal_nonempty}
@@ -25,11 +25,7 @@ begins_split (t ∷ text) (b ∷ bs) h =
 -- a numeral is its digits' place value
 numeral_is : (base : ℕ) (ds : List ℕ) (n : ℕ) → numeral base ds ≡ Some n → Digits base ds × (n ≡ place_value base ds)
 numeral_is base [] n h = search rules
-numeral_is base (d ∷ ds) n h = by_all (all_digits base (d ∷ ds)) refl h
-  where
-    by_all : (all : Bool) → all_digits base (d ∷ ds) ≡ all → cond all (Some (place_value base (d ∷ ds))) None ≡ Some n → Digits base (d ∷ ds) × (n ≡ place_value base (d ∷ ds))
-    by_all true e k = (record { some = omega arith; each = e }, cc)
-    by_all false e k = search rules
+numeral_is base (d ∷ ds) n h = grind arith
 
 numeral_of : (base : ℕ) (ds : List ℕ) → Digits base ds → numeral base ds ≡ Some (place_value base ds)
 numeral_of base [] h = absurd (let never : ⊥ = omega (arith, h.some) in never)
@@ -43,11 +39,7 @@ mapped_is f (Some n) z h = (n, refl, (cc))
 
 ranged_is : (o : Option ℤ) (z : ℤ) → ranged o ≡ Some z → (o ≡ Some z) × (in_range z ≡ true)
 ranged_is None z h = search rules
-ranged_is (Some y) z h = by_range (in_range y) refl h
-  where
-    by_range : (b : Bool) → in_range y ≡ b → cond b (Some y) None ≡ Some z → (Some y ≡ Some z) × (in_range z ≡ true)
-    by_range true e k = let same : y ≡ z = cc in (k, ap in_range (sym same) ∙ e)
-    by_range false e k = search rules
+ranged_is (Some y) z h = grind arith
 
 decimal_writes : (bs : List ℕ) (z : ℤ) (m p : Bool) → begins (codes "-") bs ≡ m → begins (codes "+") bs ≡ p → decimal bs ≡ Some z → Writes bs z
 decimal_writes bs z true p em ep h =
@@ -72,18 +64,15 @@ written_writes bs z false ex h = decimal_writes bs z (begins (codes "-") bs) (be
 
 -- ---- and back
 
--- a decimal digit is no byte that is none
-no_digit : (t b : ℕ) → ltb (digit_value t) 10 ≡ false → ltb (digit_value b) 10 ≡ true → eqb t b ≡ false
-no_digit t b ht hb = ne_eqb t b (λ e. both_ways (ltb (digit_value b) 10) (ap (λ (x : ℕ). ltb (digit_value x) 10) (sym e) ∙ ht) hb)
-
--- so decimal digits begin with no sign, and not with `0x`
+-- decimal digits begin with no sign, and not with `0x`
 no_sign : (t : ℕ) (bs : List ℕ) → ltb (digit_value t) 10 ≡ false → all_digits 10 bs ≡ true → begins (t ∷ []) bs ≡ false
 no_sign t [] ht h = refl
-no_sign t (b ∷ bs) ht h = and_left (eqb t b) true (no_digit t b ht (and_parts (ltb (digit_value b) 10) (all_digits 10 bs) h).0)
+no_sign t (b ∷ bs) ht h = grind arith
 
 no_base : (bs : List ℕ) → all_digits 10 bs ≡ true → begins (codes "0x") bs ≡ false
 no_base [] h = refl
-no_base (b ∷ bs) h = and_right (eqb 48 b) (begins (120 ∷ []) bs) (no_sign 120 bs refl (and_parts (ltb (digit_value b) 10) (all_digits 10 bs) h).1)
+no_base (b ∷ []) h = grind arith
+no_base (b ∷ x ∷ bs) h = grind arith
 
 writes_written : (bs : List ℕ) (z : ℤ) → Writes bs z → written bs ≡ Some z
 writes_written bs z (plain h e) =

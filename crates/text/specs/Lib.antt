@@ -1,6 +1,4 @@
 pub mod Digits
-pub mod Due
-pub mod Encoded
 pub mod Examples
 pub mod Forms
 pub mod Integers

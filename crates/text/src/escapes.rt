@@ -1,28 +1,23 @@
 // The digits of escapes: four hexadecimal ones, and three octal ones.
+#![tactic(auto, using(crate::proofs::Numerals::fitting_short, crate::proofs::Numerals::numeral_below))]
+
 ghost use Rattle.std.specs.Prelude.{◌≡◌};
 ghost use Rattle.text.specs.Digits.{numeral};
 
-use crate::digits::digit;
+use crate::digits::magnitude;
 
 // The UTF-16 unit that four hexadecimal digits write, in either case of the letters. No sign is a digit.
 pub fn utf16_code_unit(digits: [u8; 4]) -> Option<u16>
     ensures { result ≡ numeral 16 digits }
 {
-    let [a, b, c, d] = digits;
-    let unit = digit(a, 16)? * 0x1000
-        + digit(b, 16)? * 0x100
-        + digit(c, 16)? * 0x10
-        + digit(d, 16)?;
-    Some(unit as u16)
+    u16::try_from(magnitude(&digits, 16)?).ok()
 }
 
 // The number, up to 511, that three octal digits write.
 pub fn octal_value(digits: [u8; 3]) -> Option<u16>
     ensures { result ≡ numeral 8 digits }
 {
-    let [a, b, c] = digits;
-    let value = digit(a, 8)? * 0o100 + digit(b, 8)? * 0o10 + digit(c, 8)?;
-    Some(value as u16)
+    u16::try_from(magnitude(&digits, 8)?).ok()
 }
 
 #[cfg(test)]

@@ -19,6 +19,7 @@ pub const NEXT_UNICODE_MAPPING: [u16; 128] = [
 ];
 
 // The code point that a NEXTSTEP number stands for. Numbers below 128 and above 255 stand for themselves.
+#[tactic(auto, unfolding(crate::specs::Nextstep::nextstep))]
 pub fn map_next_step_to_unicode(c: u32) -> u32
     ensures value { result ≡ nextstep c }
     ensures scalar { scalar c ≡ true → scalar result ≡ true }

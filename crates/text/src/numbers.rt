@@ -1,34 +1,26 @@
 // Number syntax: decimal digits with an optional sign, or hexadecimal digits behind `0x`.
-ghost use Rattle.std.specs.Prelude.{◌≡◌, ◌+◌, ◌*◌, ◌<◌, pos, Some};
+ghost use Rattle.std.specs.Prelude.{◌≡◌, ◌<◌, pos, Some};
 ghost use Rattle.std.specs.Option.{option_map};
 ghost use Rattle.text.specs.Notation.{Notation};
-ghost use Rattle.text.specs.Digits.{digit_of, numeral};
-ghost use Rattle.text.specs.Numbers.{decimal, fitting, minus, number, numbered, ranged};
+ghost use Rattle.text.specs.Digits.{numeral};
+ghost use Rattle.text.specs.Numbers.{decimal, minus, number, numbered, ranged};
 ghost use Rattle.text.specs.Samples.{Samples};
 
-use crate::digits::digit;
+use crate::digits::magnitude;
 use crate::integer::Integer;
 
 impl Integer {
     /// The number that the bytes write, if they are one.
+    #[tactic(auto, using(crate::proofs::Prefixes::written_hexadecimal, crate::proofs::Prefixes::decimal_minus, crate::proofs::Prefixes::decimal_plus), unfolding(crate::specs::Numbers::number))]
     pub fn from_str(bytes: &[u8]) -> Option<Integer>
         ensures { numbered result ≡ number bytes.now }
     {
         match bytes {
             [b'0', b'x', digits @ ..] => unsigned(digits, 16),
-            _ => signed(bytes),
+            [b'-', digits @ ..] => negative(digits),
+            [b'+', digits @ ..] => unsigned(digits, 10),
+            _ => unsigned(bytes, 10),
         }
-    }
-}
-
-/// The number that decimal digits write, with an optional sign in front.
-fn signed(bytes: &[u8]) -> Option<Integer>
-    ensures { numbered result ≡ ranged (decimal bytes.now) }
-{
-    match bytes {
-        [b'-', digits @ ..] => negative(digits),
-        [b'+', digits @ ..] => unsigned(digits, 10),
-        _ => unsigned(bytes, 10),
     }
 }
 
@@ -44,40 +36,8 @@ fn unsigned(digits: &[u8], base: u64) -> Option<Integer>
 fn negative(digits: &[u8]) -> Option<Integer>
     ensures { numbered result ≡ ranged (option_map minus (numeral 10 digits.now)) }
 {
-    opposite(magnitude(digits, 10)?)
-}
-
-/// The integer −n, unless it is too low.
-fn opposite(n: u64) -> Option<Integer>
-    ensures { numbered result ≡ ranged (Some (minus n)) }
-{
-    match n.checked_sub(1) {
-        Some(less) => Some(Integer::from(-1 - i64::try_from(less).ok()?)),
-        None => Some(Integer::from(0i64)),
-    }
-}
-
-/// The value of one or more digits of the base, if it fits.
-fn magnitude(digits: &[u8], base: u64) -> Option<u64>
-    requires { 0 < base }
-    ensures { result ≡ fitting (numeral base digits.now) }
-{
-    if digits.is_empty() {
-        return None;
-    }
-    let mut n: u64 = 0;
-    for byte in digits {
-        n = longer(n, *byte, base)?;
-    }
-    Some(n)
-}
-
-/// The value n with one more digit behind it, if the byte is a digit of the base and the value fits.
-fn longer(n: u64, byte: u8, base: u64) -> Option<u64>
-    ensures { result ≡ fitting (option_map (λ d. n * base + d) (digit_of base byte)) }
-{
-    let d = digit(byte, base)?;
-    n.checked_mul(base)?.checked_add(d)
+    let n = magnitude(digits, 10)?;
+    Some(Integer::from(0i64.checked_sub_unsigned(n)?))
 }
 
 /// Number syntax as a relation between bytes and integers, and that a displayed Integer is read back.
@@ -86,6 +46,7 @@ pub fn notation_stands()
 {}
 
 /// Sample numbers, computed from the definition.
+#[tactic(auto, unfolding(crate::specs::Numbers::number))]
 pub fn samples_stand()
     ensures { Samples }
 {}

@@ -1,7 +1,6 @@
 // UTF-16 by RFC 2781: from units to scalar values.
-ghost use Rattle.std.specs.Prelude.{◌≡◌, true, IfSome};
+ghost use Rattle.std.specs.Prelude.{◌≡◌};
 ghost use Rattle.text.specs.Utf16.{surrogate, decode, Utf16Agrees};
-ghost use Rattle.text.specs.Utf8.{scalar};
 
 // Whether the unit is one half of a pair.
 pub fn is_surrogate(unit: u16) -> bool
@@ -10,17 +9,17 @@ pub fn is_surrogate(unit: u16) -> bool
     matches!(unit, 0xD800..=0xDFFF)
 }
 
-// The scalar value of one unit that is no surrogate, or of a high surrogate and a low one.
-pub fn decode_utf16(first: u16, second: Option<u16>) -> Option<u32>
-    ensures value { result ≡ decode first second }
-    ensures scalar { IfSome result (λ c. scalar c ≡ true) }
+// The character of one unit that is no surrogate, or of a high surrogate and a low one. (By a rule of the project UTF-16 is
+// written out; `char::decode_utf16` goes over a row of units.)
+pub fn decode_utf16(first: u16, second: Option<u16>) -> Option<char>
+    ensures { result ≡ decode first second }
 {
     match (first, second) {
-        (0xD800..=0xDBFF, Some(low @ 0xDC00..=0xDFFF)) => Some(
+        (0xD800..=0xDBFF, Some(low @ 0xDC00..=0xDFFF)) => char::from_u32(
             (u32::from(first) - 0xD800) * 0x400 + (u32::from(low) - 0xDC00) + 0x1_0000,
         ),
         (0xD800..=0xDFFF, _) | (_, Some(_)) => None,
-        (unit, None) => Some(u32::from(unit)),
+        (unit, None) => char::from_u32(u32::from(unit)),
     }
 }
 

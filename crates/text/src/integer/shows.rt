@@ -17,6 +17,7 @@ impl fmt::Display for Integer {
     }
 }
 
+// By hand: the Rust crate's shows the number too, and a derived one would show the form.
 impl fmt::Debug for Integer {
     fn fmt<W: fmt::Write>(&self, f: &mut fmt::Formatter<W>) -> fmt::Result {
         fmt::Display::fmt(self, f)

@@ -1,7 +1,9 @@
-use Rattle.std.proofs.Common.{◌≡◌, drop}
-use Rattle.text.specs.Due.{ranges}
-use Rattle.text.specs.Utf8.{goes_on, utf8}
+use Rattle.std.proofs.Common.{◌≡◌, length}
+use Rattle.text.specs.Utf8.{utf8}
 use Rattle.text.proofs.utf8.is_utf8.Given as goal
 
-abbrev pub invariant-loop-byte : goal.invariant-loop-byte
-invariant-loop-byte l = goes_on (ranges l.due) (drop l.byte-index l.bytes) ≡ utf8 l.bytes
+abbrev pub invariant-loop-rest : goal.invariant-loop-rest
+invariant-loop-rest l = utf8 l.rest ≡ utf8 l.bytes
+
+abbrev pub decreases-loop-rest : goal.decreases-loop-rest
+decreases-loop-rest l = length l.rest

@@ -1,6 +1,6 @@
-use Rattle.text.proofs.Encodings.{encoding_agrees, library_agrees}
+use Rattle.text.proofs.Encodings.{encoding_agrees, library_agrees, utf8_encode}
 use Rattle.text.proofs.Grammar.{decides}
-use Rattle.text.proofs.Texts.{utf8_append, utf8_encode, length_encode, utf8_ascii}
+use Rattle.text.proofs.Texts.{utf8_append, length_encode, utf8_ascii}
 use Rattle.text.proofs.utf8.utf8_agrees.Goals as goal
 
 pub returns : goal.returns
