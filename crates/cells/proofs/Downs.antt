@@ -1,5 +1,5 @@
 -- The indices below n, each once; and the free list of a whole array, one cell after another.
-use Rattle.std.proofs.Common.{◌≡◌, ℕ, zero, suc, ◌+◌, ◌<◌, ◌≤◌, ◌⊎◌, List, ◌∷◌, length, set, Some, Option, sym, refl, ap, ◌∙◌, subst, inl, inr, add-one, arith}
+use Rattle.std.proofs.Common.{◌≡◌, ℕ, zero, suc, ◌+◌, ◌<◌, ◌≤◌, List, ◌∷◌, length, set, Some, Option, sym, refl, ap, ◌∙◌, subst, add-one, arith}
 use Rattle.std.proofs.lemmas.Bool.Decides.{nat_tests}
 use Rattle.cells.specs.declared.frees.FreeList.{FreeList}
 use Rattle.cells.specs.Chains.{Chain, occ, down}
@@ -15,11 +15,8 @@ pub occ_down : (i n : ℕ) → i < n → occ i (down n) ≡ 1
 occ_down i zero h = omega arith
 occ_down i (suc n) h = grind (arith, nat_tests, occ_past i n, occ_down i n)
 
-where_is : (i n : ℕ) → (i < n) ⊎ (n ≤ i)
-where_is i n = grind (arith, nat_tests)
-
 pub once_down : (n i : ℕ) → occ i (down n) ≤ 1
-once_down n i = elim (where_is i n) [ inl l ↦ omega (arith, occ_down i n l) | inr g ↦ omega (arith, occ_past i n g) ]
+once_down n i = grind (arith, nat_tests, occ_down i n, occ_past i n)
 
 pub length_down : (n : ℕ) → length (down n) ≡ n
 length_down zero = refl

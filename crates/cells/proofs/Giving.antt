@@ -91,13 +91,12 @@ pub giving_start : (links : List (Option ℕ)) (head : Option ℕ) (list : FreeL
 giving_start links head list s = record { some = s; each = λ is free p. (is, free, p, λ i. refl, λ i. omega arith, λ i z. refl) }
 
 module _ (was : List (Option ℕ)) (head : Option ℕ) (list₀ : FreeList) (links : List (Option ℕ)) (todo : Option ℕ) (list : FreeList) where
-  pub giving_in : (i : ℕ) → todo ≡ Some i → Giving was head list₀ links todo list → i < length links
-  giving_in i e g = ∥∥₁_elim g.some le_prop (λ x. (chain_some links i x.0 (subst (λ (h : Option ℕ). Chain links h x.0) e x.2.chain)).0)
-
-  pub giving_room : (i : ℕ) → todo ≡ Some i → Giving was head list₀ links todo list → list.count < length links
-  giving_room i e g = ∥∥₁_elim g.some le_prop (λ x.
+  pub giving_within : (i : ℕ) → todo ≡ Some i → Giving was head list₀ links todo list → (i < length links) × (list.count < length links)
+  giving_within i e g =
+      let known : (x : (is : List ℕ) × (free : List ℕ) × Parted links todo is list free) → (i < length links) × (length x.0 ≡ suc (length (rest x.0))) = λ x.
       let s = chain_some links i x.0 (subst (λ (h : Option ℕ). Chain links h x.0) e x.2.chain) in
-      omega (arith, ap length s.3, parted_room links todo x.0 list x.1 x.2))
+      (s.0, ap length s.3) in
+      (∥∥₁_elim g.some le_prop (λ x. (known x).0), ∥∥₁_elim g.some le_prop (λ x. omega (arith, (known x).1, parted_room links todo x.0 list x.1 x.2)))
 
   pub giving_more : (i : ℕ) (ms : List (Option ℕ)) (more : FreeList) → todo ≡ Some i → ms ≡ set links i list.first → more.first ≡ Some i → more.count ≡ list.count + 1
       → Giving was head list₀ links todo list → Giving was head list₀ ms (get_or links i None) more

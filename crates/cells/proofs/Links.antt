@@ -1,6 +1,5 @@
 -- Chains: what a write of a link does to one, and what its first cell shows.
-use Rattle.std.proofs.Common.{◌≡◌, ℕ, ◌<◌, ◌≤◌, List, [], ◌∷◌, map, length, get_or, set, Some, None, Option, sym, refl, ap, ◌∙◌, inl, inr, arith, length-set, get_or-set_other, get_or-set_same}
-use Rattle.std.proofs.lemmas.List.{map-set, set-get_or, get_or-map}
+use Rattle.std.proofs.Common.{◌≡◌, ℕ, ◌<◌, ◌≤◌, List, [], ◌∷◌, length, get_or, set, Some, None, Option, sym, refl, ap, inl, inr, arith, length-set, get_or-set_other, get_or-set_same}
 use Rattle.cells.specs.Chains.{Chain, occ, first, rest, Once}
 use Rattle.cells.proofs.Occs.{occ_here, occ_cases}
 
@@ -26,15 +25,6 @@ chain_below links head [] c i p = omega arith
 chain_below links head (x ∷ is) c i p =
     elim (occ_cases i x is p) [ inl e ↦ omega (arith, e) | inr q ↦ chain_below links (get_or links x None) is c.2 i q ]
 
--- A field read through a list of cells.
-pub map_read : {X Y : Type 0} (f : X → Y) (xs : List X) (i : ℕ) (x : X) (d : Y) → i < length xs → x ≡ get_or xs i x → f x ≡ get_or (map f xs) i d
-map_read f xs i x d lt is = ap f is ∙ sym (get_or-map f xs i x d lt)
-
--- A write that keeps a field keeps the list of that field.
-pub map_kept : {X Y : Type 0} (f : X → Y) (xs : List X) (i : ℕ) (x y : X) → x ≡ get_or xs i x → f y ≡ f x → map f (set xs i y) ≡ map f xs
-map_kept f xs i x y is same =
-    map-set f xs i y ∙ ap (set (map f xs) i) same ∙ sym (map-set f xs i x) ∙ ap (λ z. map f (set xs i z)) is ∙ ap (map f) (set-get_or xs i x)
-
 -- What is known of a chain once its head is.
 pub chain_none : (links : List (Option ℕ)) (is : List ℕ) → Chain links None is → is ≡ []
 chain_none links [] c = refl
@@ -45,10 +35,6 @@ chain_some links at [] c = let z : ◌≡◌ {A = ℕ} 0 1 = cc in let no : ⊥ 
 chain_some links at (i ∷ is) c =
     let e : at ≡ i = cc c.0 in
     (omega (arith, c.1), c.0, rw e c.2, ap (λ k. k ∷ is) (sym e))
-
-pub chain_first : (links : List (Option ℕ)) (head : Option ℕ) (is : List ℕ) (at : ℕ) → Chain links head is → Some at ≡ first is → (at < length links) × (is ≡ at ∷ rest is)
-chain_first links head [] at c e = let z : ◌≡◌ {A = ℕ} 0 1 = cc in let no : ⊥ = omega arith in absurd no
-chain_first links head (i ∷ is) at c e = let same : at ≡ i = cc in (omega (arith, c.1), ap (λ k. k ∷ is) (sym same))
 
 pub once_apart : (at : ℕ) (is : List ℕ) → Once (at ∷ is) → occ at is ≡ 0
 once_apart at is once = omega (arith, occ_here at is, once at)

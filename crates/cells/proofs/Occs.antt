@@ -1,5 +1,5 @@
 -- How often an index stands in a list.
-use Rattle.std.proofs.Common.{◌≡◌, ℕ, ◌+◌, ◌<◌, ◌≤◌, ◌≢◌, ◌⊎◌, List, [], ◌∷◌, ◌++◌, arith}
+use Rattle.std.proofs.Common.{◌≡◌, ℕ, ◌+◌, ◌<◌, ◌≢◌, ◌⊎◌, List, [], ◌∷◌, ◌++◌, arith}
 use Rattle.std.proofs.lemmas.Bool.Decides.{nat_tests}
 use Rattle.cells.specs.Chains.{occ}
 
@@ -13,14 +13,8 @@ occ_here i xs = grind (arith, nat_tests)
 pub occ_other : (i x : ℕ) (xs : List ℕ) → i ≢ x → occ i (x ∷ xs) ≡ occ i xs
 occ_other i x xs ne = grind (arith, nat_tests)
 
-pub occ_tail : (i x : ℕ) (xs : List ℕ) → occ i xs ≤ occ i (x ∷ xs)
-occ_tail i x xs = omega arith
-
 pub occ_cases : (i x : ℕ) (xs : List ℕ) → 0 < occ i (x ∷ xs) → (i ≡ x) ⊎ (0 < occ i xs)
 occ_cases i x xs p = grind (arith, nat_tests)
 
 pub occ_split : (i : ℕ) (xs ys : List ℕ) → 0 < occ i (xs ++ ys) → (0 < occ i xs) ⊎ (0 < occ i ys)
 occ_split i xs ys p = grind (arith, occ_append i xs ys)
-
-pub some_or_none : (n : ℕ) → (0 < n) ⊎ (n ≡ 0)
-some_or_none n = grind (arith, nat_tests)
