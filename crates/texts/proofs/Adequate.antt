@@ -1,14 +1,10 @@
 -- What text_of says where every block is 24 bytes wide.
-use Rattle.std.proofs.Common.{◌≡◌, ℕ, zero, suc, ◌-◌, ◌<◌, ◌≤◌, min, ◌⊎◌, List, [], ◌∷◌, ◌++◌, length, take, sym, refl, ap, ◌∙◌, inl, inr, arith}
-use Rattle.std.proofs.lemmas.List.{length-take-le, take_all}
-use Rattle.std.proofs.lemmas.Bool.Decides.{nat_tests}
+use Rattle.std.proofs.Common.{◌≡◌, ℕ, zero, suc, ◌-◌, min, List, [], ◌∷◌, ◌++◌, length, take, sym, refl, ap, ◌∙◌, arith}
+use Rattle.std.proofs.lemmas.List.{length-take-le, take_min}
 use Rattle.std.specs.List.{flat_map}
 use Rattle.cells.proofs.Occs.{occ_here}
 use Rattle.texts.specs.Texts.{at, front, text_of, TextIs}
 use Rattle.texts.proofs.Reading.{front_take, text_nil, text_cons}
-
-whole : (m : ℕ) → (24 ≤ m) ⊎ (m < 24)
-whole m = grind (arith, nat_tests)
 
 take_past : (n : ℕ) (b more : List ℕ) → take n (b ++ more) ≡ take n b ++ take (n - length b) more
 take_past zero [] more = refl
@@ -19,10 +15,7 @@ take_past (suc n) (x ∷ b) more =
     ap (λ (t : List ℕ). x ∷ t) (take_past n b more ∙ ap (λ (k : ℕ). take n b ++ take k more) less)
 
 take_block : (n : ℕ) (b : List ℕ) → length b ≡ 24 → take n b ≡ take (min n 24) b
-take_block n b long = elim (whole n) [
-  | inl h ↦ let m : min n 24 ≡ 24 = omega arith in take_all n b (omega arith) ∙ sym (ap (λ (k : ℕ). take k b) m ∙ take_all 24 b (omega arith))
-  | inr h ↦ ap (λ (k : ℕ). take k b) (omega arith)
-]
+take_block n b long = sym (take_min n b) ∙ ap (λ (k : ℕ). take (min n k) b) long
 
 -- The text is the first n bytes of the blocks, one after another.
 pub text_is : TextIs

@@ -1,6 +1,6 @@
 -- A text in cells that agree with others where it stands.
 use Rattle.std.proofs.Common.{◌≡◌, ℕ, ◌<◌, ◌≤◌, List, length, Option, sym, ap, ◌∙◌, arith}
-use lib.ListN.{length-map}
+use Rattle.std.proofs.lemmas.List.{length-map}
 use Rattle.cells.specs.Chains.{occ}
 use Rattle.cells.proofs.Links.{chain_agree, chain_below}
 use Rattle.texts.specs.declared.cell.TextCell.{TextCell}

@@ -1,18 +1,18 @@
 -- A text written from its last block to its first.
-use Rattle.std.proofs.Common.{◌≡◌, ℕ, zero, suc, ◌+◌, ◌-◌, ◌*◌, ◌/◌, ◌<◌, ◌≤◌, min, ◌≢◌, ◌⊎◌, List, [], ◌∷◌, ◌++◌, length, get_or, take, drop, set, Some, None, Option, sym, refl, ap, ◌∙◌, subst, inl, inr, arith, length-set, get_or-set_other, get_or-set_same}
+use Rattle.std.proofs.Common.{◌≡◌, ℕ, zero, suc, ◌+◌, ◌-◌, ◌*◌, ◌/◌, ◌%◌, ◌<◌, ◌≤◌, min, ◌≢◌, List, [], ◌∷◌, ◌++◌, length, get_or, set, Some, None, Option, sym, refl, ap, ◌∙◌, subst, inl, inr, arith, length-set, get_or-set_other, get_or-set_same}
 use mathlib.Core.Logic.{∥∥₁_elim, ∥∥₁_map}
 use native.Mathlib.Bridge.{le_prop}
-use lib.ListN.{length-map}
-use Rattle.std.proofs.lemmas.List.{map-set, get_or_append_left, length-append, take-append-drop, drop-drop, drop_all, length-take-le, length-drop}
-use Rattle.std.proofs.lemmas.Bool.Decides.{nat_tests}
+use Rattle.std.proofs.lemmas.List.{length-map}
+use Rattle.std.proofs.lemmas.List.{map-set, get_or_append_left, length-append, append-nil, append_assoc}
 use Rattle.cells.specs.declared.frees.FreeList.{FreeList}
-use Rattle.cells.specs.Chains.{Chain, rest, occ, Once}
+use Rattle.cells.specs.Chains.{Chain, rest as rest_of, occ, Once}
 use Rattle.cells.specs.Frees.{Free}
+use Rattle.std.proofs.Math.Nat.{eq-zero-or-pos}
 use Rattle.cells.proofs.Occs.{occ_here}
 use Rattle.cells.proofs.Links.{chain_give, once_apart}
 use Rattle.cells.proofs.Giving.{free_rest, free_agree, free_some, free_none}
 use Rattle.texts.specs.declared.cell.TextCell.{TextCell}
-use Rattle.texts.specs.Texts.{at, blank, links, front, text_of, Wrote, Answered}
+use Rattle.texts.specs.Texts.{at, blank, links, front, text_of, cells_for, Wrote}
 use Rattle.texts.proofs.Reading.{front_is, text_nil, text_cons}
 
 -- Cells that agree where the chain goes hold the same text.
@@ -34,13 +34,13 @@ link_at (c ∷ cs) (suc i) = link_at cs i
 
 -- The list after its first cell is taken and written.
 pub free_wrote : (cs : List TextCell) (list less : FreeList) (i : ℕ) (y : TextCell) (free : List ℕ) → list.first ≡ Some i → less.first ≡ get_or (links cs) i None → less.count + 1 ≡ list.count
-    → Free (links cs) list free → Free (links (set cs i y)) less (rest free) × (free ≡ i ∷ rest free) × (i < length cs)
+    → Free (links cs) list free → Free (links (set cs i y)) less (rest_of free) × (free ≡ i ∷ rest_of free) × (i < length cs)
 free_wrote cs list less i y free e f k g =
     let s = free_rest (links cs) list less i free e f k g in
-    let away : occ i (rest free) ≡ 0 = once_apart i (rest free) (subst Once s.1 g.once) in
+    let away : occ i (rest_of free) ≡ 0 = once_apart i (rest_of free) (subst Once s.1 g.once) in
     let ls : links (set cs i y) ≡ set (links cs) i y.next = map-set (λ (c : TextCell). c.next) cs i y in (
-      free_agree (links cs) (links (set cs i y)) less (rest free) (omega (arith, ap length ls, length-set (links cs) i y.next))
-          (λ j p. ap (λ (xs : List (Option ℕ)). get_or xs j None) ls ∙ get_or-set_other (links cs) i j y.next None (λ q. omega (arith, ap (λ (m : ℕ). occ m (rest free)) q)))
+      free_agree (links cs) (links (set cs i y)) less (rest_of free) (omega (arith, ap length ls, length-set (links cs) i y.next))
+          (λ j p. ap (λ (xs : List (Option ℕ)). get_or xs j None) ls ∙ get_or-set_other (links cs) i j y.next None (λ q. omega (arith, ap (λ (m : ℕ). occ m (rest_of free)) q)))
           s.0,
       s.1,
       omega (arith, s.2, length-map cs (λ (c : TextCell). c.next)),
@@ -50,10 +50,10 @@ free_wrote cs list less i y free e f k g =
 pub wrote_more : (was : List TextCell) (free b t : List ℕ) (cs : List TextCell) (list less : FreeList) (head : Option ℕ) (is left : List ℕ) (i : ℕ) (x : TextCell)
     → Once free → list.first ≡ Some i → less.first ≡ get_or (links cs) i None → less.count + 1 ≡ list.count
     → 0 < length b → length b ≡ min (length b + length t) 24 → x.next ≡ head → front (length b) x.bytes ≡ b
-    → Wrote was free t cs list head is left → Wrote was free (b ++ t) (set cs i x) less (Some i) (i ∷ is) (rest left)
+    → Wrote was free t cs list head is left → Wrote was free (b ++ t) (set cs i x) less (Some i) (i ∷ is) (rest_of left)
 wrote_more was free b t cs list less head is left i x once e f k some full next block w =
     let s = free_wrote cs list less i x left e f k w.spare in
-    let more = rest left in
+    let more = rest_of left in
     let lt : i < length cs = s.2 in
     let occs : (k : ℕ) → occ k left ≡ occ k (i ∷ more) = λ k. ap (occ k) s.1 in
     let apart : occ i is ≡ 0 = omega (arith, w.shared i, once i, occs i, occ_here i more) in
@@ -84,85 +84,54 @@ wrote_more was free b t cs list less head is left i x once e f k some full next 
           get_or-set_other cs i k x blank ne ∙ w.kept k (omega arith);
     }
 
--- A write under way: the last blocks stand, `blocks` are still to come.
-pub record Writing (was : List TextCell) (list₀ : FreeList) (text : List ℕ) (cs : List TextCell) (list : FreeList) (head : Option ℕ) (blocks : ℕ) : Type 0 where
+-- A write under way: `done`, the end of the text, stands, and `todo` is still to come, in whole blocks.
+pub record Writing (was : List TextCell) (list₀ : FreeList) (text : List ℕ) (cs : List TextCell) (list : FreeList) (head : Option ℕ) (todo : List ℕ) : Type 0 where
   pub some : ∥ ((free : List ℕ) × Free (links cs) list free) ∥₁
-  pub room : blocks ≤ list.count
-  pub most : blocks ≤ (length text + 23) / 24
-  pub each : (free : List ℕ) → Free (links was) list₀ free → (is : List ℕ) × (left : List ℕ) × Wrote was free (drop (blocks * 24) text) cs list head is left
+  pub room : cells_for (length todo) ≤ list.count
+  pub done : List ℕ
+  pub split : text ≡ todo ++ done
+  pub whole : 0 < length done → length todo % 24 ≡ 0
+  pub each : (free : List ℕ) → Free (links was) list₀ free → (is : List ℕ) × (left : List ℕ) × Wrote was free done cs list head is left
 
-pub some_in : (cs : List TextCell) (list : FreeList) (i : ℕ) → list.first ≡ Some i → ∥ ((free : List ℕ) × Free (links cs) list free) ∥₁ → i < length cs
-some_in cs list i e s = ∥∥₁_elim s le_prop (λ x. omega (arith, (free_some (links cs) list i x.0 e x.1).0, length-map cs (λ (c : TextCell). c.next)))
-
-pub some_counted : (cs : List TextCell) (list : FreeList) (i : ℕ) → list.first ≡ Some i → ∥ ((free : List ℕ) × Free (links cs) list free) ∥₁ → 0 < list.count
-some_counted cs list i e s = ∥∥₁_elim s le_prop (λ x. (free_some (links cs) list i x.0 e x.1).1)
+-- The first free cell lies in the array, and the list counts it.
+pub some_first : (cs : List TextCell) (list : FreeList) (i : ℕ) → list.first ≡ Some i → ∥ ((free : List ℕ) × Free (links cs) list free) ∥₁ → (i < length cs) × (0 < list.count)
+some_first cs list i e s =
+    (∥∥₁_elim s le_prop (λ x. omega (arith, (free_some (links cs) list i x.0 e x.1).0, length-map cs (λ (c : TextCell). c.next))), ∥∥₁_elim s le_prop (λ x. (free_some (links cs) list i x.0 e x.1).1))
 
 pub some_none : (cs : List TextCell) (list : FreeList) → list.first ≡ None → ∥ ((free : List ℕ) × Free (links cs) list free) ∥₁ → list.count ≤ 0
 some_none cs list e s = ∥∥₁_elim s le_prop (λ x. omega (arith, (free_none (links cs) list x.0 e x.1).1))
 
-pub writing_start : (cs : List TextCell) (list : FreeList) (text : List ℕ) (blocks : ℕ) → blocks ≡ (length text + 23) / 24 → blocks ≤ list.count
-    → ∥ ((free : List ℕ) × Free (links cs) list free) ∥₁ → Writing cs list text cs list None blocks
-writing_start cs list text blocks e room s =
-    let over : drop (blocks * 24) text ≡ [] = drop_all (blocks * 24) text (omega arith) in
-    record {
-      some = s;
-      room = room;
-      most = omega arith;
-      each = λ free f. (
-        [],
-        free,
-        subst (λ (t : List ℕ). Wrote cs free t cs list None [] free) (sym over)
-            record {
-              holds = record { spans = record { chain = refl; enough = refl }; says = text_nil cs 0 };
-              spare = f;
-              shared = λ i. omega arith;
-              kept = λ i z. refl;
-            },
-      );
-    }
+pub writing_start : (cs : List TextCell) (list : FreeList) (text : List ℕ) → cells_for (length text) ≤ list.count → ∥ ((free : List ℕ) × Free (links cs) list free) ∥₁ → Writing cs list text cs list None text
+writing_start cs list text room s = record {
+  some = s;
+  room = room;
+  done = [];
+  split = sym (append-nil text);
+  whole = λ p. omega arith;
+  each = λ free f. ([], free, record { holds = record { spans = record { chain = refl; enough = refl }; says = text_nil cs 0 }; spare = f; shared = λ i. omega arith; kept = λ i z. refl });
+}
 
--- One block of the text, and what comes after it.
-pub next_block : (text : List ℕ) (blocks m : ℕ) → m ≡ min (length text - blocks * 24) 24 → take m (drop (blocks * 24) text) ++ drop ((blocks + 1) * 24) text ≡ drop (blocks * 24) text
-next_block text blocks m e =
-    let n = length text in
-    let after : drop m (drop (blocks * 24) text) ≡ drop ((blocks + 1) * 24) text =
-    drop-drop m (blocks * 24) text ∙ elim (whole m) [
-      | inl full ↦ ap (λ (k : ℕ). drop k text) (omega arith)
-      | inr short ↦ drop_all (blocks * 24 + m) text (omega arith) ∙ sym (drop_all ((blocks + 1) * 24) text (omega arith))
-    ] in
-    ap (λ (t : List ℕ). take m (drop (blocks * 24) text) ++ t) (sym after) ∙ take-append-drop m (drop (blocks * 24) text)
-  where
-    whole : (m : ℕ) → (24 ≤ m) ⊎ (m < 24)
-    whole m = grind (arith, nat_tests)
+block_full : (todo rest part done : ℕ) → todo ≡ rest + part → rest ≡ (todo - 1) / 24 * 24 → 0 < todo → (0 < done → todo % 24 ≡ 0) → part ≡ min (part + done) 24
+block_full todo rest part done cut size some whole =
+    elim (eq-zero-or-pos done) [ inl z ↦ omega arith | inr p ↦ let z : todo % 24 ≡ 0 = whole p in omega arith ]
 
-pub writing_more : (was : List TextCell) (list₀ : FreeList) (text : List ℕ) (cs : List TextCell) (list less : FreeList) (head : Option ℕ) (blocks left m i : ℕ) (y : TextCell)
+-- The last of the blocks to come is written.
+pub writing_more : (was : List TextCell) (list₀ : FreeList) (text : List ℕ) (cs : List TextCell) (list less : FreeList) (head : Option ℕ) (todo part rest : List ℕ) (i : ℕ) (y : TextCell)
     → list.first ≡ Some i → less.first ≡ get_or (links cs) i None → less.count ≡ list.count - 1
-    → blocks ≡ left + 1 → m ≡ min (length text - left * 24) 24 → y.next ≡ head → front m y.bytes ≡ take m (drop (left * 24) text)
-    → Writing was list₀ text cs list head blocks → Writing was list₀ text (set cs i y) less (Some i) left
-writing_more was list₀ text cs list less head blocks left m i y e l k f m-is next block g =
-    let room : blocks ≤ list.count = g.room in
-    let most : blocks ≤ (length text + 23) / 24 = g.most in
+    → todo ≡ rest ++ part → length rest ≡ (length todo - 1) / 24 * 24 → 0 < length todo → y.next ≡ head → front (length part) y.bytes ≡ part
+    → Writing was list₀ text cs list head todo → Writing was list₀ text (set cs i y) less (Some i) rest
+writing_more was list₀ text cs list less head todo part rest i y e l k cut size some next block g =
+    let room : cells_for (length todo) ≤ list.count = g.room in
+    let lens : length todo ≡ length rest + length part = ap length cut ∙ length-append rest part in
     let fewer : less.count + 1 ≡ list.count = omega arith in
-    let b = take m (drop (left * 24) text) in
-    let t = drop ((left + 1) * 24) text in
-    let long : length b ≡ m = length-take-le m (drop (left * 24) text) (simp length-drop (omega arith)) in
-    let tail-long : length t ≡ length text - (left + 1) * 24 = length-drop ((left + 1) * 24) text in
+    let full : length part ≡ min (length part + length g.done) 24 = block_full (length todo) (length rest) (length part) (length g.done) lens size some g.whole in
     record {
-      some = ∥∥₁_map g.some (λ x. (rest x.0, (free_wrote cs list less i y x.0 e l fewer x.1).0));
+      some = ∥∥₁_map g.some (λ x. (rest_of x.0, (free_wrote cs list less i y x.0 e l fewer x.1).0));
       room = omega arith;
-      most = omega arith;
+      done = part ++ g.done;
+      split = g.split ∙ ap (λ (t : List ℕ). t ++ g.done) cut ∙ append_assoc rest part g.done;
+      whole = λ p. omega arith;
       each = λ free fr.
           let x = g.each free fr in
-          let w : Wrote was free t cs list head x.0 x.1 = subst (λ (k : ℕ). Wrote was free (drop (k * 24) text) cs list head x.0 x.1) f x.2 in (
-            i ∷ x.0,
-            rest x.1,
-            subst (λ (u : List ℕ). Wrote was free u (set cs i y) less (Some i) (i ∷ x.0) (rest x.1)) (next_block text left m m-is)
-                (wrote_more was free b t cs list less head x.0 x.1 i y fr.once e l fewer (omega arith) (omega arith) next (ap (λ (k : ℕ). front k y.bytes) long ∙ block) w),
-          );
+          (i ∷ x.0, rest_of x.1, wrote_more was free part g.done cs list less head x.0 x.1 i y fr.once e l fewer (omega arith) full next block x.2);
     }
-
-pub writing_done : (was : List TextCell) (list₀ : FreeList) (text : List ℕ) (cs : List TextCell) (list : FreeList) (head : Option ℕ) (blocks : ℕ)
-    → blocks ≤ 0 → (length text + 23) / 24 ≤ list₀.count → Writing was list₀ text cs list head blocks → Answered was list₀ text cs list (Some head)
-writing_done was list₀ text cs list head blocks none room g =
-    let z : blocks ≡ 0 = omega arith in
-    (room, λ free f. let x = g.each free f in (x.0, x.1, subst (λ (k : ℕ). Wrote was free (drop (k * 24) text) cs list head x.0 x.1) z x.2))

@@ -1,10 +1,11 @@
 -- Texts in cells: the bytes of a chain of cells.
-use Rattle.std.specs.Prelude.{◌≡◌, ℕ, zero, suc, ◌+◌, ◌-◌, ◌/◌, ◌<◌, ◌≤◌, min, List, [], ◌∷◌, ◌++◌, map, length, take, Some, None, Option, slice_index_or}
+use Rattle.std.specs.Prelude.{◌≡◌, ℕ, zero, suc, ◌+◌, ◌-◌, ◌/◌, ◌<◌, ◌≤◌, min, List, [], ◌∷◌, ◌++◌, map, length, take, None, Option, Ok, Err, Result, slice_index_or}
 use Rattle.std.specs.List.{flat_map}
 use Rattle.cells.specs.declared.frees.FreeList.{FreeList}
 use Rattle.cells.specs.Chains.{Chain, occ}
 use Rattle.cells.specs.Frees.{Free}
 use Rattle.texts.specs.declared.cell.TextCell.{TextCell}
+use Rattle.texts.specs.declared.errors.TooFewCells.{TooFewCells}
 
 abbrev pub blank : TextCell
 blank = record { next = None; bytes = [] }
@@ -51,8 +52,8 @@ pub record Wrote (was : List TextCell) (free text : List ℕ) (cs : List TextCel
   pub shared : (i : ℕ) → occ i is + occ i left ≡ occ i free
   pub kept : (i : ℕ) → occ i is ≡ 0 → at cs i ≡ at was i
 
--- What a write answers: None exactly where the text takes more cells than are free, and then all is as it was; else where the text begins.
-abbrev pub Answered : List TextCell → FreeList → List ℕ → List TextCell → FreeList → Option (Option ℕ) → Type 0
-Answered was list text cs list' None = (list.count < cells_for (length text)) × (cs ≡ was) × (list' ≡ list)
-Answered was list text cs list' (Some head) =
+-- What a write answers: an error exactly where the text takes more cells than are free, and then all is as it was; else where the text begins.
+abbrev pub Answered : List TextCell → FreeList → List ℕ → List TextCell → FreeList → Result (Option ℕ) TooFewCells → Type 0
+Answered was list text cs list' (Err e) = (list.count < cells_for (length text)) × (cs ≡ was) × (list' ≡ list)
+Answered was list text cs list' (Ok head) =
     (cells_for (length text) ≤ list.count) × ((free : List ℕ) → Free (links was) list free → (is : List ℕ) × (left : List ℕ) × Wrote was free text cs list' head is left)

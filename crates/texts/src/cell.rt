@@ -3,15 +3,21 @@ ghost use Rattle.std.specs.Prelude.{Option};
 
 use cells::linked::Linked;
 
-// The link leads to the cell with the text's next 24 bytes, or in a free cell to the next free one.
+// Texts take no heap, so the link is an index: the cells stand in one array of a fixed size.
+// The link leads to the cell with the text's next block, or in a free cell to the next free one.
 #[derive(Clone, Copy)]
 pub struct TextCell {
     pub next: Option<u16>,
-    pub bytes: [u8; 24],
+    pub bytes: [u8; TextCell::BLOCK],
+}
+
+impl TextCell {
+    // How many bytes a cell holds.
+    pub const BLOCK: usize = 24;
 }
 
 impl Linked for TextCell {
-    type Load = [u8; 24];
+    type Load = [u8; TextCell::BLOCK];
 
     ghost linkof = { λ c. c.next };
 

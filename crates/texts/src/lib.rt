@@ -1,5 +1,7 @@
-// Texts of up to 1,024 bytes in cells of 24.
+// Texts in cells of 24 bytes.
 #![tactic(auto)]
 
 pub mod cell;
+pub mod errors;
 pub mod moves;
+mod parts;

@@ -4,53 +4,48 @@ ghost use Rattle.cells.specs.Frees.{Free};
 ghost use Rattle.texts.specs.Texts.{links, Holds, Answered, TextIs};
 
 use crate::cell::TextCell;
-use cells::frees::{FreeList, take};
+use crate::errors::TooFewCells;
+use crate::parts::Parts;
+use cells::frees::FreeList;
 
 // Writes a text into free cells, or finds too few free and changes nothing. From the last block to the first, so that each cell links to the one before.
-pub fn write_text(cells: &mut [TextCell], list: &mut FreeList, text: &[u8]) -> Option<Option<u16>>
-    requires short { length text.now ≤ 1024 }
+// The cells and their free list are two parameters, as at `FreeList`.
+pub fn write_text(
+    cells: &mut [TextCell],
+    list: &mut FreeList,
+    text: &[u8],
+) -> Result<Option<u16>, TooFewCells>
     requires spare { ∥ ((free : List ℕ) × Free (links cells.old) list.old free) ∥₁ }
     ensures wrote { Answered cells.old list.old text.now cells.new list.new result }
 {
-    let mut left = (text.len() + 23) / 24;
-    if left > list.count as usize {
-        return None;
+    if text.len().div_ceil(TextCell::BLOCK) > list.count as usize {
+        return Err(TooFewCells);
     }
     let mut first = None;
-    'parts: while left > 0 {
-        let Some(at) = take(cells, list) else {
-            return None;
+    'parts: for part in text.chunks(TextCell::BLOCK).rev() {
+        let Some(at) = list.take(cells) else {
+            unreachable!();
         };
-        left -= 1;
-        let start = left * 24;
-        let end = if text.len() < start + 24 {
-            text.len()
-        } else {
-            start + 24
-        };
-        let mut bytes = [0; 24];
-        bytes[0..end - start].copy_from_slice(&text[start..end]);
+        let mut bytes = [0; TextCell::BLOCK];
+        bytes[..part.len()].copy_from_slice(part);
         cells[at as usize] = TextCell { next: first, bytes };
         first = Some(at);
     }
-    Some(first)
+    Ok(first)
 }
 
 // Reads a text of n bytes into the front of the slice.
+// The cells, the first one and the length are three parameters, here and below: the cells are the store's, the other two a node's, and a
+// struct of those two would be taken apart here at once.
 pub fn read_text(cells: &[TextCell], first: Option<u16>, n: usize, out: &mut [u8])
     requires fits { n ≤ length out.old }
     requires held { ∥ ((is bs : List ℕ) × Holds cells.now first is bs × (length bs ≡ n)) ∥₁ }
     ensures text { (is bs : List ℕ) → Holds cells.now first is bs → length bs ≡ n → out.new ≡ bs ++ drop n out.old }
 {
-    let mut done = 0;
-    let mut todo = first;
-    while let Some(at) = todo {
-        let cell = cells[at as usize];
-        let left = n - done;
-        let m = if left < 24 { left } else { 24 };
-        out[done..done + m].copy_from_slice(&cell.bytes[..m]);
-        done += m;
-        todo = cell.next;
+    // Over `chunks_mut`, or with `split_at_mut` in the loop, `returns` stays open: a proof then knows no byte of `out`.
+    for (i, part) in Parts::new(cells, first, n).enumerate() {
+        let start = i * TextCell::BLOCK;
+        out[start..start + part.len()].copy_from_slice(part);
     }
 }
 
@@ -62,19 +57,13 @@ pub fn same_text(cells: &[TextCell], first: Option<u16>, n: usize, key: &[u8]) -
     if n != key.len() {
         return false;
     }
-    let mut done = 0;
-    let mut todo = first;
-    'parts: while let Some(at) = todo {
-        let cell = cells[at as usize];
-        let left = n - done;
-        let m = if left < 24 { left } else { 24 };
-        'bytes: for j in 0..m {
-            if cell.bytes[j] != key[done + j] {
+    let parts = Parts::new(cells, first, n);
+    'parts: for (part, wanted) in parts.zip(key.chunks(TextCell::BLOCK)) {
+        'bytes: for (byte, want) in part.iter().zip(wanted) {
+            if byte != want {
                 return false;
             }
         }
-        done += m;
-        todo = cell.next;
     }
     true
 }

@@ -1,12 +1,17 @@
-use Rattle.std.proofs.Common.{◌≡◌, ℕ, ◌+◌, ◌-◌, ◌<◌, get_or}
-use Rattle.texts.proofs.Reading.{Reading}
+use Rattle.std.proofs.Common.{◌≡◌}
+use Rattle.std.specs.Iterator.Adapters.{zip_first, zip_second}
+use Rattle.std.specs.Slice.Iter.{iter_rest, chunks_rest, chunks_size}
+use Rattle.texts.proofs.Comparing.{Comparing, Pair}
 use Rattle.texts.proofs.moves.same_text.Given as goal
 
+-- What is left of the two parts is the same where they are.
 abbrev pub invariant-bytes : goal.invariant-bytes
-invariant-bytes l = (k : ℕ) → k < l.j → get_or l.cell.bytes k 0 ≡ get_or l.key (l.done + k) 0
+invariant-bytes l =
+    Pair l.cells l.fn.first l.n l.key (iter_rest (zip_first l.byte-iterator)) (iter_rest (zip_second l.byte-iterator)) (zip_first l.part-iterator) (chunks_rest (zip_second l.part-iterator))
 
 abbrev pub invariant-parts : goal.invariant-parts
-invariant-parts l = Reading l.cells l.initial.todo l.n l.key l.key l.done l.todo
-
-abbrev pub decreases-parts : goal.decreases-parts
-decreases-parts l = l.n - l.done
+invariant-parts l = record {
+  can_next : (goal.iterator-parts).can_next l.part-iterator;
+  size : chunks_size (zip_second l.part-iterator) ≡ 24;
+  comparing : Comparing l.cells l.fn.first l.n l.key (zip_first l.part-iterator) (chunks_rest (zip_second l.part-iterator));
+}
