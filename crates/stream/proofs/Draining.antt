@@ -1,13 +1,10 @@
 -- Going through all events of a stream, one at a time.
-use Rattle.std.proofs.Common.{◌≡◌, ℕ, ◌+◌, ◌-◌, ◌^◌, ◌≤◌, min, List, length, Some, Ok, Option, Result, sym, ap, ◌∙◌, subst, arith}
-use Rattle.stream.specs.declared.drains.Drained.{Drained}
+use Rattle.std.proofs.Common.{◌≡◌, ℕ, ◌+◌, ◌-◌, ◌^◌, ◌≤◌, min, List, length, Some, None, Ok, Err, Option, Result, refl, sym, ap, ◌∙◌, subst, arith}
+use Rattle.std.specs.Prelude.{⊤}
 use Rattle.stream.specs.declared.errors.Error.{Error}
-use Rattle.stream.specs.declared.events.Event.{Event}
-use Rattle.stream.specs.declared.sources.Ending.{Ending}
-use Rattle.stream.specs.declared.sources.Ending.TheVariants.{End, Refused}
 use Rattle.stream.specs.Drains.{Drains}
-use Rattle.stream.specs.Events.{text_length_lem}
-use Rattle.stream.specs.Nexts.{Next, Gives, answer_of}
+use Rattle.stream.specs.Events.{ScratchEvent, text_length_lem}
+use Rattle.stream.specs.Nexts.{Next, Gives}
 use Rattle.stream.specs.Scratch.{beyond, Cleared}
 use Rattle.stream.specs.Streams.{Stream, over}
 use Rattle.stream.proofs.Zeros.{beyond_cleared, behind_same}
@@ -19,17 +16,19 @@ pub record Underway (u₀ u : Stream) (k : ℕ) (s₀ s : List ℕ) : Type 0 whe
   pub fits : k ≤ 2 ^ 64 - 1
   pub kept : beyond s ≡ beyond s₀
 
-same_drained : (i j : ℕ) (d e : Ending) → i ≡ j → d ≡ e → ◌≡◌ {A = Result Drained Error} (Ok (record { count = i; ending = d })) (Ok (record { count = j; ending = e }))
-same_drained i j d e p q = ap (λ (k : ℕ). Ok (record { count = k; ending = d })) p ∙ ap (λ (x : Ending). Ok (record { count = j; ending = x })) q
+-- what a source answers that has come to its ending
+abbrev pub answer_of : Result ⊤ Error → Result (Option ScratchEvent) Error
+answer_of (Ok _) = Ok None
+answer_of (Err e) = Err e
 
-at_end : (u v : Stream) (s s' : List ℕ) (end : Ending) → Gives u s (answer_of end) v s' → (u ≡ over end) × (v ≡ u) × Cleared 0 s s'
-at_end u v s s' End g = g
-at_end u v s s' (Refused e) g = g
+at_end : (u v : Stream) (s s' : List ℕ) (end : Result ⊤ Error) → Gives u s (answer_of end) v s' → (u ≡ over end) × (v ≡ u) × Cleared 0 s s'
+at_end u v s s' (Ok _) g = g
+at_end u v s s' (Err e) g = g
 
-module _ (u₀ u v : Stream) (k : ℕ) (s₀ s s' : List ℕ) (r : Result (Option Event) Error) (now : Underway u₀ u k s₀ s) (room : 1024 ≤ length s) (next : Next u s r v s') where
-  pub on : (e : Event) (m : ℕ) → r ≡ Ok (Some e) → 1024 ≤ length s' → m ≡ min (k + 1) (2 ^ 64 - 1) → Underway u₀ v m s₀ s'
+module _ (u₀ u v : Stream) (k : ℕ) (s₀ s s' : List ℕ) (r : Result (Option ScratchEvent) Error) (now : Underway u₀ u k s₀ s) (room : 1024 ≤ length s) (next : Next u s r v s') where
+  pub on : (e : ScratchEvent) (m : ℕ) → r ≡ Ok (Some e) → 1024 ≤ length s' → m ≡ min (k + 1) (2 ^ 64 - 1) → Underway u₀ v m s₀ s'
   on e m is room' counts =
-      let g : Gives u s (Ok (Some e)) v s' = subst (λ (x : Result (Option Event) Error). Gives u s x v s') is (next.gives room) in
+      let g : Gives u s (Ok (Some e)) v s' = subst (λ (x : Result (Option ScratchEvent) Error). Gives u s x v s') is (next.gives room) in
       let one : length u.events ≡ length v.events + 1 = omega (arith, ap (λ (x : Stream). length x.events) g.0) in
       record {
         ending = sym (ap (λ (x : Stream). x.ending) g.0) ∙ now.ending;
@@ -39,16 +38,16 @@ module _ (u₀ u v : Stream) (k : ℕ) (s₀ s s' : List ℕ) (r : Result (Optio
       }
 
   -- the events are over
-  pub done : (end : Ending) → r ≡ answer_of end → 1024 ≤ length s₀ → Drains u₀ s₀ (Ok (record { count = k; ending = end })) v s'
+  pub done : (end : Result ⊤ Error) → r ≡ answer_of end → 1024 ≤ length s₀ → Drains u₀ s₀ (Ok (record { count = k; ending = end })) v s'
   done end is room₀ =
-      let g = at_end u v s s' end (subst (λ (x : Result (Option Event) Error). Gives u s x v s') is (next.gives room)) in
+      let g = at_end u v s s' end (subst (λ (x : Result (Option ScratchEvent) Error). Gives u s x v s') is (next.gives room)) in
       let ends : end ≡ u₀.ending = sym (ap (λ (x : Stream). x.ending) g.0) ∙ now.ending in
       let none : length u.events ≡ 0 = ap (λ (x : Stream). length x.events) g.0 in
       let all : k ≡ min (length u₀.events) (2 ^ 64 - 1) = omega (arith, none, now.count, now.fits) in
       record {
         short = λ h. absurd (omega arith);
         drains = λ _. (
-          same_drained k (min (length u₀.events) (2 ^ 64 - 1)) end u₀.ending all ends,
+          rw (all, ends) refl,
           g.1 ∙ (g.0 ∙ ap over ends),
           g.2 ∙ behind_same 0 s s₀ now.kept,
         );

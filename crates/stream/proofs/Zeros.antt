@@ -1,8 +1,8 @@
 -- Zeros behind a text.
-use Rattle.std.proofs.Common.{◌≡◌, ℕ, ◌+◌, ◌-◌, ◌<◌, ◌≤◌, min, max, ◌⊎◌, List, [], ◌++◌, length, take, drop, set, replicate, sym, refl, ap, ◌∙◌, inl, inr, append_assoc, append-nil, arith, length-append}
+use Rattle.std.proofs.Common.{◌≡◌, ℕ, ◌+◌, ◌-◌, ◌<◌, ◌≤◌, min, max, ◌⊎◌, List, [], ◌++◌, length, take, drop, replicate, sym, refl, ap, ◌∙◌, inl, inr, append_assoc, append-nil, arith, length-append}
 use lib.ListN.{length-replicate}
 use borrow.Rule.Slice.PartMut.{put_mid}
-use Rattle.std.proofs.lemmas.List.{length-take-le, take_at, take_all, take-append-drop, drop_all, drop_at, drop-drop, drop-set-lt}
+use Rattle.std.proofs.lemmas.List.{length-take-le, take_at, take_all, take-append-drop, drop_all, drop_at, drop-drop}
 use Rattle.std.proofs.lemmas.Slice.{drop-append-drop}
 use Rattle.std.proofs.lemmas.Bool.{cases_lt}
 use Rattle.stream.specs.Scratch.{beyond, behind, zeroed, Cleared}
@@ -71,17 +71,6 @@ put_cleared s s₁ s₂ ts small is then =
     let front : take n s₁ ≡ ts = ap (λ (xs : List ℕ). take n xs) is ∙ take_at ts (drop n s) n refl in
     let back : drop 1024 s₁ ≡ drop 1024 s = ap (λ (xs : List ℕ). drop 1024 xs) is ∙ drop-append-drop n s ts 1024 small refl in
     then ∙ (ap (λ (xs : List ℕ). xs ++ (replicate (1024 - n) 0 ++ drop 1024 s₁)) front ∙ ap (λ (xs : List ℕ). ts ++ (replicate (1024 - n) 0 ++ xs)) back)
-
--- and so it is cleared behind the text, which stands in front
-pub put_front : (s s' ts : List ℕ) → s' ≡ ts ++ behind (length ts) s → (take (length ts) s' ≡ ts) × Cleared (length ts) s s'
-put_front s s' ts is =
-    let front : take (length ts) s' ≡ ts = ap (λ (xs : List ℕ). take (length ts) xs) is ∙ take_at ts (behind (length ts) s) (length ts) refl in
-    (front, is ∙ ap (λ (xs : List ℕ). xs ++ behind (length ts) s) (sym front))
-
--- a byte of the front changes nothing past it
-pub beyond_set : (s : List ℕ) (n b : ℕ) → n < 1024 → beyond (set s n b) ≡ beyond s
-unfolding beyond
-beyond_set s n b h = drop-set-lt 1024 s n b h
 
 -- a scratch that was cleared behind a text is the same past byte 1,024
 pub beyond_cleared : (n : ℕ) (s s' : List ℕ) → n ≤ 1024 → 1024 ≤ length s' → Cleared n s s' → beyond s' ≡ beyond s

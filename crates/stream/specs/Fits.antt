@@ -1,10 +1,9 @@
 -- What a list of events means is fit, and what either of two sources means.
-use Rattle.std.specs.Prelude.{◌≡◌, ℕ, ◌≤◌, Bool, true, false, cond, List, [], ◌∷◌, length, Some, None, Option, nat_le, is_some, refl}
+use Rattle.std.specs.Prelude.{◌≡◌, ℕ, ◌≤◌, Bool, true, false, cond, List, [], ◌∷◌, length, Some, None, Option, Result, nat_le, is_some, ⊤, refl}
 use Rattle.std.proofs.Common.{ap, true≢false}
 use Rattle.std.proofs.lemmas.Bool.{leb-true}
 use Rattle.text.specs.Utf8.{utf8}
 use Rattle.stream.specs.declared.errors.Error.{Error}
-use Rattle.stream.specs.declared.sources.Ending.{Ending}
 use Rattle.stream.specs.declared.either.Either.{Either}
 use Rattle.stream.specs.declared.either.Either.TheVariants.{Left, Right}
 use Rattle.stream.specs.Lists.{unfit, unless, one_more, fit_part}
@@ -35,7 +34,7 @@ fit_event n (Ev.String bs) none =
 fit_event n (Ev.Uid u) none = tt
 
 -- whatever stands in the list, what it means is fit
-pub part_fit : (n : ℕ) (evs : List Ev) (end : Ending) → EachFit (fit_part n evs end).events
+pub part_fit : (n : ℕ) (evs : List Ev) (end : Result ⊤ Error) → EachFit (fit_part n evs end).events
 part_fit n [] end = tt
 part_fit n (ev ∷ evs) end = go (unfit n ev) refl (part_fit (one_more n) evs end)
   where

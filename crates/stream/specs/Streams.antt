@@ -1,8 +1,8 @@
 -- Events of a property list as data, and streams of them.
-use Rattle.std.specs.Prelude.{◌≡◌, ℕ, ◌≤◌, Bool, true, List, [], ◌∷◌, length, ℤ, Option, Float}
+use Rattle.std.specs.Prelude.{◌≡◌, ℕ, ◌≤◌, Bool, true, List, [], ◌∷◌, length, ℤ, Option, Result, Float, ⊤}
 use Rattle.text.specs.Utf8.{utf8}
 use Rattle.stream.specs.declared.kinds.EventKind.{EventKind}
-use Rattle.stream.specs.declared.sources.Ending.{Ending}
+use Rattle.stream.specs.declared.errors.Error.{Error}
 
 -- An event. A start may say how many items or pairs come. Texts are bytes; of floats, not-a-number is one value.
 pub data Ev : Type 0 where
@@ -27,16 +27,16 @@ kind (Real x) = EventKind.Real
 kind (String bs) = EventKind.String
 kind (Uid u) = EventKind.Uid
 
--- the events that are left, and how they end
+-- the events that are left, and how they end: with Ok, or with a refusal
 pub record Stream : Type 0 where
   pub events : List Ev
-  pub ending : Ending
+  pub ending : Result ⊤ Error
 
-abbrev pub stream : List Ev → Ending → Stream
+abbrev pub stream : List Ev → Result ⊤ Error → Stream
 stream es e = record { events = es; ending = e }
 
 -- nothing but an ending is left
-abbrev pub over : Ending → Stream
+abbrev pub over : Result ⊤ Error → Stream
 over e = stream [] e
 
 -- one event more

@@ -19,19 +19,14 @@ pub fn drain<E: EventSource>(source: &mut E, scratch: &mut [u8]) -> Result<Drain
         return Err(Error::ShortScratch);
     }
     let mut count = 0u64;
-    loop {
+    let ending = loop {
         match source.next(scratch) {
             Ok(Some(_event)) => count = count.saturating_add(1),
-            Ok(None) => {
-                let ending = Ending::End;
-                return Ok(Drained { count, ending });
-            }
-            Err(error) => {
-                let ending = Ending::Refused(error);
-                return Ok(Drained { count, ending });
-            }
+            Ok(None) => break Ok(()),
+            Err(error) => break Err(error),
         }
-    }
+    };
+    Ok(Drained { count, ending })
 }
 
 #[cfg(test)]
@@ -49,7 +44,7 @@ mod tests {
             ListedEvent::String(b"\xff"),
         ];
         let mut scratch = [7u8; 1025];
-        let list: EventList = EventList::new(&events, Ending::End);
+        let list: EventList = EventList::new(&events, Ok(()));
         let mut source: Either<EventList, EventList> = Either::Left(list);
         assert_eq!(rt; source.next(&mut scratch), Ok(Some(Event::String(2))));
         assert!(rt;
@@ -59,7 +54,7 @@ mod tests {
         assert_eq!(rt; source.next(&mut short), Err(Error::ShortScratch));
         assert_eq!(rt; source.next(&mut scratch), Ok(Some(Event::Real(f64::NAN))));
         let left = drain(&mut source, &mut scratch);
-        let ending = Ending::Refused(Error::InvalidUtf8AsciiStream { position: 2 });
+        let ending = Err(Error::InvalidUtf8AsciiStream { position: 2 });
         assert_eq!(rt; left, Ok(Drained { count: 0, ending }));
     }
 }

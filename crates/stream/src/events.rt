@@ -1,6 +1,6 @@
 // The events that spell a property list, one after another.
 ghost use Rattle.std.specs.Prelude.{◌≡◌, Decides};
-ghost use Rattle.stream.specs.Events.{kind_of, text_length_lem};
+ghost use Rattle.stream.specs.Events.{kind_of, text_in, text_length_lem};
 ghost use Rattle.std.specs.Cmp.{partial_equiv_from_equiv};
 ghost use Rattle.stream.specs.Equals.{equal_event, event_laws};
 
@@ -8,21 +8,22 @@ use crate::kinds::EventKind;
 use crate::uid::Uid;
 use text::integer::Integer;
 
-// A Data or a String carries the length of its text, whose bytes stand at the front of the scratch.
+// A Data or a String carries a text, or what stands for one: by default its length, the bytes being at the front of the scratch.
+// What an Integer carries is a parameter too, since only so may a type with an invariant stand in an enum beside a reference.
 #[derive(Clone, Copy, Debug)]
-pub enum Event {
+pub enum Event<Text = usize, Number = Integer> {
     StartArray(Option<u64>),
     StartDictionary(Option<u64>),
     EndCollection,
     Boolean(bool),
-    Data(usize),
-    Integer(Integer),
+    Data(Text),
+    Integer(Number),
     Real(f64),
-    String(usize),
+    String(Text),
     Uid(Uid),
 }
 
-impl Event {
+impl<Text: Copy, Number: Copy> Event<Text, Number> {
     pub fn kind(self) -> EventKind
         ensures { result ≡ kind_of self }
     {
@@ -39,14 +40,23 @@ impl Event {
         }
     }
 
+    // Its text, or what stands for one, if it has any.
+    pub(crate) fn text(self) -> Option<Text>
+        ensures { result ≡ text_in self }
+    {
+        match self {
+            Event::Data(text) | Event::String(text) => Some(text),
+            _ => None,
+        }
+    }
+}
+
+impl Event {
     // How many bytes at the front of the scratch are the event's text.
     pub fn text_length(self) -> usize
         ensures { result ≡ text_length_lem self }
     {
-        match self {
-            Event::Data(n) | Event::String(n) => n,
-            _ => 0,
-        }
+        self.text().unwrap_or(0)
     }
 }
 
@@ -63,7 +73,8 @@ fn same_real(a: f64, b: f64) -> bool
     a.to_bits() == b.to_bits()
 }
 
-// Two events are equal where they are the same. So a Real that is not a number equals itself, and 0.0 and -0.0 are two.
+// Two events are equal where they are the same. So a Real that is not a number equals itself, and 0.0 and -0.0 are two: a
+// derive would compare floats as IEEE 754 does.
 impl PartialEq for Event {
     ghost eq = { equal_event };
 
@@ -73,16 +84,17 @@ impl PartialEq for Event {
         ensures value { result ≡ equal_event self.now other.now }
         ensures same { Decides result (self.now ≡ other.now) }
     {
-        match *self {
-            Event::StartArray(a) => matches!(*other, Event::StartArray(b) if a == b),
-            Event::StartDictionary(a) => matches!(*other, Event::StartDictionary(b) if a == b),
-            Event::EndCollection => matches!(*other, Event::EndCollection),
-            Event::Boolean(a) => matches!(*other, Event::Boolean(b) if a == b),
-            Event::Data(a) => matches!(*other, Event::Data(b) if a == b),
-            Event::Integer(a) => matches!(*other, Event::Integer(b) if a == b),
-            Event::Real(a) => matches!(*other, Event::Real(b) if same_real(a, b)),
-            Event::String(a) => matches!(*other, Event::String(b) if a == b),
-            Event::Uid(a) => matches!(*other, Event::Uid(b) if a == b),
+        match (*self, *other) {
+            (Event::StartArray(a), Event::StartArray(b)) => a == b,
+            (Event::StartDictionary(a), Event::StartDictionary(b)) => a == b,
+            (Event::EndCollection, Event::EndCollection) => true,
+            (Event::Boolean(a), Event::Boolean(b)) => a == b,
+            (Event::Data(a), Event::Data(b)) => a == b,
+            (Event::Integer(a), Event::Integer(b)) => a == b,
+            (Event::Real(a), Event::Real(b)) => same_real(a, b),
+            (Event::String(a), Event::String(b)) => a == b,
+            (Event::Uid(a), Event::Uid(b)) => a == b,
+            _ => false,
         }
     }
 }

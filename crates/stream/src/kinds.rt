@@ -22,6 +22,7 @@ pub enum EventKind {
 }
 
 impl EventKind {
+    // Written out, since no contract says what a derived Debug writes.
     pub fn name(self) -> &'static str
         ensures { result.now ≡ kind_name self }
     {

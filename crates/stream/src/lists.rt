@@ -8,69 +8,48 @@ use crate::errors::Error;
 use crate::events::Event;
 use crate::scratch::{TEXT_BYTES, clear, put_text};
 use crate::sources::{Ending, EventSource};
-use crate::uid::Uid;
-use text::integer::Integer;
 use text::utf8::is_utf8;
 
-// An event whose text is borrowed. Signed and Unsigned both stand for an Integer.
-#[derive(Clone, Copy)]
-pub enum ListedEvent<'a> {
-    StartArray(Option<u64>),
-    StartDictionary(Option<u64>),
-    EndCollection,
-    Boolean(bool),
-    Data(&'a [u8]),
-    Signed(i64),
-    Unsigned(u64),
-    Real(f64),
-    String(&'a [u8]),
-    Uid(Uid),
-}
+// An event that lends its text.
+pub type ListedEvent<'a> = Event<&'a [u8]>;
 
-impl<'a> ListedEvent<'a> {
+impl<'a> Event<&'a [u8]> {
     // Its text, or no byte where it has none.
-    fn text(self) -> &'a [u8]
+    fn lent_text(self) -> &'a [u8]
         ensures { result.now ≡ text_of (listed self.entry) }
     {
-        match self {
-            ListedEvent::Data(text) | ListedEvent::String(text) => text,
-            _ => &[],
-        }
+        self.text().unwrap_or(&[])
     }
 
     // Why it is not given, if so many events stand before it.
     fn refusal(self, position: u32) -> Option<Error>
         ensures { result ≡ unfit position (listed self.entry) }
     {
-        let (text, is_string) = match self {
-            ListedEvent::Data(text) => (text, false),
-            ListedEvent::String(text) => (text, true),
-            _ => return None,
-        };
-        if text.len() > TEXT_BYTES {
-            return Some(Error::TextTooLong { position });
+        match self {
+            Event::Data(text) | Event::String(text) if text.len() > TEXT_BYTES => {
+                Some(Error::TextTooLong { position })
+            }
+            Event::String(text) if !is_utf8(text) => {
+                Some(Error::InvalidUtf8AsciiStream { position })
+            }
+            _ => None,
         }
-        if is_string && !is_utf8(text) {
-            return Some(Error::InvalidUtf8AsciiStream { position });
-        }
-        None
     }
 
-    // The event that is given, its text standing in the scratch.
+    // The event that is given, its text standing in the scratch. Each case is built anew, since its type is another.
     fn event(self) -> Event
         ensures { StandsFor result (listed self.entry) }
     {
         match self {
-            ListedEvent::StartArray(count) => Event::StartArray(count),
-            ListedEvent::StartDictionary(count) => Event::StartDictionary(count),
-            ListedEvent::EndCollection => Event::EndCollection,
-            ListedEvent::Boolean(value) => Event::Boolean(value),
-            ListedEvent::Data(text) => Event::Data(text.len()),
-            ListedEvent::Signed(value) => Event::Integer(Integer::from(value)),
-            ListedEvent::Unsigned(value) => Event::Integer(Integer::from(value)),
-            ListedEvent::Real(value) => Event::Real(value),
-            ListedEvent::String(text) => Event::String(text.len()),
-            ListedEvent::Uid(value) => Event::Uid(value),
+            Event::StartArray(count) => Event::StartArray(count),
+            Event::StartDictionary(count) => Event::StartDictionary(count),
+            Event::EndCollection => Event::EndCollection,
+            Event::Boolean(value) => Event::Boolean(value),
+            Event::Data(text) => Event::Data(text.len()),
+            Event::Integer(value) => Event::Integer(value),
+            Event::Real(value) => Event::Real(value),
+            Event::String(text) => Event::String(text.len()),
+            Event::Uid(value) => Event::Uid(value),
         }
     }
 }
@@ -108,13 +87,14 @@ impl EventSource for EventList<'_> {
         }
         let [first, rest @ ..] = self.events else {
             clear(scratch, 0);
-            return self.ending.answer();
+            self.ending?;
+            return Ok(None);
         };
         if let Some(error) = first.refusal(self.given) {
             clear(scratch, 0);
             return Err(error);
         }
-        put_text(scratch, first.text());
+        put_text(scratch, first.lent_text());
         self.events = rest;
         self.given = self.given.saturating_add(1);
         Ok(Some(first.event()))

@@ -16,7 +16,7 @@ pub fn clear(scratch: &mut [u8], from: usize)
     }
 }
 
-// Puts a text at the front, and zeros behind it.
+// Puts a text at the front, and zeros behind it. Over a slice: with an array of 1,024 bytes the proof of `EventList`'s `next` did not close.
 pub(crate) fn put_text(scratch: &mut [u8], text: &[u8])
     requires room { 1024 ≤ length scratch.old }
     requires fits { length text.now ≤ 1024 }

@@ -1,29 +1,13 @@
 // What it is to give events, one at a time.
 ghost use Rattle.std.specs.Prelude.{◌≡◌};
 ghost use Rattle.stream.specs.Streams.{Stream, EachFit};
-ghost use Rattle.stream.specs.Nexts.{Next, answer_of};
+ghost use Rattle.stream.specs.Nexts.{Next};
 
 use crate::errors::Error;
 use crate::events::Event;
 
-// How events end.
-#[derive(Clone, Copy, PartialEq, Eq, Debug)]
-pub enum Ending {
-    End,
-    Refused(Error),
-}
-
-impl Ending {
-    // What a source answers that has come to it.
-    pub fn answer(self) -> Result<Option<Event>, Error>
-        ensures { result ≡ answer_of self }
-    {
-        match self {
-            Ending::End => Ok(None),
-            Ending::Refused(error) => Err(error),
-        }
-    }
-}
+// How events end: with no refusal, or with one.
+pub type Ending = Result<(), Error>;
 
 pub trait EventSource {
     // The events that are left, and how they end.
