@@ -1,37 +1,34 @@
--- What a reader answers once an event, the end or a refusal was read and the scratch is cleared.
-use Rattle.std.proofs.Common.{◌≡◌, ℕ, ◌≤◌, List, ◌++◌, length, take, Some, None, Ok, Err, Option, Result, sym, ap, ◌∙◌, subst, arith}
-use Rattle.stream.specs.Events.{text_length_lem}
+-- What a reader answers once an event, the end or a refusal was read into the first 1,024 bytes of a scratch and these are cleared.
+use Rattle.std.proofs.Common.{◌≡◌, ℕ, ◌-◌, ◌≤◌, List, [], ◌++◌, length, take, drop, replicate, Some, None, Ok, Err, sym, ap, ◌∙◌, append_assoc, append-nil, arith}
+use Rattle.std.proofs.lemmas.List.{length-take-le, take_at, drop_all}
+use Rattle.stream.specs.Events.{ScratchEvent, text_length_lem}
 use Rattle.stream.specs.Nexts.{Next}
-use Rattle.stream.specs.Scratch.{beyond, behind}
-use Rattle.stream.specs.Streams.{over}
+use Rattle.stream.specs.Scratch.{behind, Cleared}
+use Rattle.stream.specs.Streams.{Ev, Stream, over, first}
 use Rattle.stream.specs.declared.errors.Error.{Error}
-use Rattle.stream.specs.declared.events.Event.{Event}
-use Rattle.stream.specs.declared.sources.Ending.{Ending}
-use Rattle.stream.proofs.Nexts.{next_given}
-use Rattle.stream.proofs.Zeros.{cleared}
-use Rattle.reader.specs.Meanings.{reading_of, unless_failed, Reads}
-use Rattle.reader.specs.States.{Seen}
+use Rattle.stream.proofs.Nexts.{same_event}
+use Rattle.reader.specs.Meanings.{Reads}
 
-module _ (u v : Seen) (s s₁ s₂ : List ℕ) (room : 1024 ≤ length s) (room₁ : 1024 ≤ length s₁) (kept : beyond s₁ ≡ beyond s) where
-  pub next_event : (ev : Event) → u.failed ≡ None → (r : Result (Option Event) Error) → r ≡ Ok (Some ev) → Reads u r s₁ v → (n : ℕ) → n ≡ text_length_lem ev → (1024 ≤ length s₁ → n ≤ 1024 → s₂ ≡ take n s₁ ++ behind n s₁)
-      → Next (unless_failed u.failed (reading_of u)) s (Ok (Some ev)) (unless_failed v.failed (reading_of v)) s₂
-  next_event ev none r ok reads n long clear =
-      let read = subst (λ (x : Result (Option Event) Error). Reads u x s₁ v) ok reads in
-      let is : s₂ ≡ take (text_length_lem ev) s₁ ++ behind (text_length_lem ev) s₁ = clear room₁ (omega (arith, read.1)) ∙ ap (λ (k : ℕ). take k s₁ ++ behind k s₁) long in
-      let none' : v.failed ≡ None = read.2 ∙ none in
-      rw (none, none') (next_given s room (reading_of u) (reading_of v) ev s₁ s₂ read.0 read.1 room₁ kept is)
+module _ (s t t' : List ℕ) (room : 1024 ≤ length s) (all : length t ≡ 1024) where
+  front_cleared : (n : ℕ) → n ≤ 1024 → t' ≡ take n t ++ behind n t → (take n (t' ++ drop 1024 s) ≡ take n t) × Cleared n s (t' ++ drop 1024 s)
+  unfolding behind
+  front_cleared n small is =
+      let zeros : List ℕ = replicate (1024 - n) 0 in
+      let none : drop 1024 t ≡ [] = drop_all 1024 t (omega arith) in
+      let front : t' ≡ take n t ++ zeros = is ∙ (ap (λ (xs : List ℕ). take n t ++ (zeros ++ xs)) none ∙ ap (λ (xs : List ℕ). take n t ++ xs) (append-nil zeros)) in
+      let whole : t' ++ drop 1024 s ≡ take n t ++ (zeros ++ drop 1024 s) = ap (λ (xs : List ℕ). xs ++ drop 1024 s) front ∙ append_assoc (take n t) zeros (drop 1024 s) in
+      let same : take n (t' ++ drop 1024 s) ≡ take n t = ap (λ (xs : List ℕ). take n xs) whole ∙ take_at (take n t) (zeros ++ drop 1024 s) n (length-take-le n t (omega arith)) in
+      (same, whole ∙ ap (λ (xs : List ℕ). xs ++ (zeros ++ drop 1024 s)) (sym same))
 
-  pub next_end : u.failed ≡ None → (r : Result (Option Event) Error) → r ≡ Ok None → Reads u r s₁ v → s₂ ≡ take 0 s₁ ++ behind 0 s₁
-      → Next (unless_failed u.failed (reading_of u)) s (Ok None) (unless_failed v.failed (reading_of v)) s₂
-  next_end none r ok reads is =
-      let read = subst (λ (x : Result (Option Event) Error). Reads u x s₁ v) ok reads in
-      let c = cleared 0 s s₁ s₂ (omega arith) room₁ kept is in
-      let none' : v.failed ≡ None = read.2 ∙ none in
-      rw (none, none') (record { short = λ h. absurd (omega arith); gives = λ _. (read.0, read.1 ∙ sym read.0, c.1) })
+  module _ (u v : Stream) where
+    pub next_event : (ev : ScratchEvent) → Reads u (Ok (Some ev)) t v → (n : ℕ) → n ≡ text_length_lem ev → (1024 ≤ length t → n ≤ 1024 → t' ≡ take n t ++ behind n t) → Next u s (Ok (Some ev)) v (t' ++ drop 1024 s)
+    next_event ev read n long clear =
+        let is : t' ≡ take (text_length_lem ev) t ++ behind (text_length_lem ev) t = clear (omega arith) (omega (arith, read.1)) ∙ ap (λ (k : ℕ). take k t ++ behind k t) long in
+        let c = front_cleared (text_length_lem ev) read.1 is in
+        record { short = λ h. absurd (omega arith); gives = λ _. (read.0 ∙ ap (λ (x : Ev). first x v) (same_event ev t (t' ++ drop 1024 s) c.0), read.1, c.1) }
 
-  pub next_refusal : (f : Error) → u.failed ≡ None → (r : Result (Option Event) Error) → r ≡ Err f → Reads u r s₁ v → s₂ ≡ take 0 s₁ ++ behind 0 s₁
-      → Next (unless_failed u.failed (reading_of u)) s (Err f) (over (Ending.Refused f)) s₂
-  next_refusal f none r err reads is =
-      let read = subst (λ (x : Result (Option Event) Error). Reads u x s₁ v) err reads in
-      let c = cleared 0 s s₁ s₂ (omega arith) room₁ kept is in
-      rw none (record { short = λ h. absurd (omega arith); gives = λ _. (read, sym read, c.1) })
+    pub next_end : Reads u (Ok None) t v → t' ≡ take 0 t ++ behind 0 t → Next u s (Ok None) v (t' ++ drop 1024 s)
+    next_end read is = record { short = λ h. absurd (omega arith); gives = λ _. (read.0, read.1, (front_cleared 0 (omega arith) is).1) }
+
+  pub next_refusal : (u : Stream) (f : Error) → u ≡ over (Err f) → t' ≡ take 0 t ++ behind 0 t → Next u s (Err f) (over (Err f)) (t' ++ drop 1024 s)
+  next_refusal u f is clear = record { short = λ h. absurd (omega arith); gives = λ _. (is, sym is, (front_cleared 0 (omega arith) clear).1) }

@@ -1,13 +1,16 @@
 -- Runs one after another.
 use Rattle.std.proofs.Common.{◌≡◌, ℕ, ◌≤◌, List, [], ◌∷◌, length, Ok, Err, Option, Result, sym, refl, ap, ◌∙◌, arith}
 use Rattle.source.specs.Asking.{rest}
-use Rattle.source.specs.declared.sources.Ending.{Ending}
+use Rattle.source.specs.Endings.{Ending}
 use Rattle.stream.specs.declared.errors.Error.{Error}
 use Rattle.reader.specs.States.{Seen, untaken, ends, Moved, Ran, Stepped}
 use Rattle.reader.specs.Steps.{Done, Run, pure, onward, ◌>>=◌, step_gives, stepped, step}
 
+pub stays : (u : Seen) → Moved u u
+stays u = record { keeps = refl; shorter = omega arith }
+
 pub moved_trans : (u v w : Seen) → Moved u v → Moved v w → Moved u w
-moved_trans u v w a b = record { keeps = b.keeps ∙ a.keeps; shorter = omega arith; full = b.full; failed = b.failed ∙ a.failed }
+moved_trans u v w a b = record { keeps = b.keeps ∙ a.keeps; shorter = omega arith }
 
 -- on from where a run ended
 pub ran_on : {A B : Type 0} (run : Run A) (next : A → Run B) (u v : Seen) (a : A) → Ran run u (Ok a) v → (run >>= next) u.position (untaken u) (ends u) ≡ next a v.position (untaken v) (ends v)
@@ -25,7 +28,7 @@ module _ {A B : Type 0} (run : Run A) (next : A → Run B) (u v w : Seen) where
 
 -- a run that makes one value out of another
 pub ran_made : {A B : Type 0} (run : Run A) (f : A → B) (u v : Seen) (a : A) → Ran run u (Ok a) v → Ran (run >>= λ x. pure (f x)) u (Ok (f a)) v
-ran_made run f u v a first = ran_then run (λ x. pure (f x)) u v v a (Ok (f a)) first (refl, record { keeps = refl; shorter = omega arith; full = first.1.full; failed = refl })
+ran_made run f u v a first = ran_then run (λ x. pure (f x)) u v v a (Ok (f a)) first (refl, stays v)
 
 rest_length : (xs : List ℕ) → length (rest xs) ≤ length xs
 rest_length [] = omega arith
@@ -40,7 +43,7 @@ module _ (u v : Seen) where
         ap (λ (r : Result (Option ℕ) Error). stepped r u.position (untaken u) (ends u)) gives
             ∙ (ap (λ (p : ℕ). Ok (record { value = o; position = p; left = rest (untaken u) })) (sym took.counts)
             ∙ ap (λ (xs : List ℕ). Ok (record { value = o; position = v.position; left = xs })) (sym took.leaves)),
-        record { keeps = took.keeps; shorter = omega (arith, ap length took.leaves, rest_length (untaken u)); full = took.full; failed = took.failed },
+        record { keeps = took.keeps; shorter = omega (arith, ap length took.leaves, rest_length (untaken u)) },
       )
 
   pub ran_step_refused : (f : Error) → Stepped u (Err f) v → Ran step u (Err f) v

@@ -1,9 +1,6 @@
 pub mod Added
 pub mod Answered
 pub mod Chains
-pub mod Escapes
 pub mod Items
-pub mod Literals
-pub mod Plain
 pub mod Quoted
 pub mod Unfolding

@@ -7,8 +7,8 @@ use Rattle.text.specs.Numbers.{number}
 use Rattle.text.specs.Utf16.{surrogate, decode}
 use Rattle.text.specs.Utf8.{utf8, encode}
 use Rattle.source.specs.Asking.{answer}
-use Rattle.source.specs.declared.sources.Ending.{Ending}
-use Rattle.source.specs.declared.sources.Ending.TheVariants.{End, Fault}
+use Rattle.source.specs.Endings.{Ending}
+use Rattle.source.specs.declared.sources.Fault.{Fault}
 use Rattle.stream.specs.Streams.{Ev, Stream, first}
 use Rattle.stream.specs.declared.errors.Error.{Error}
 use Rattle.stream.specs.declared.errors.Error.TheVariants.{TooLong, TextTooLong, InvalidUtf8AsciiStream, InvalidOctalString, InvalidUtf16String}
@@ -19,11 +19,8 @@ use Rattle.reader.specs.Texts.{text_bytes, added, whole_text, ends_plain_lem, pl
 use Rattle.reader.specs.Tokens.{Item, token, passed_over, the_end, separator, as_token, as_nothing, behind_slash, potential_comment_lem, begun, begun_if, item}
 use Rattle.reader.specs.declared.states.Comment.{Comment}
 
-zero_one : ◌≡◌ {A = ℕ} 0 1 → ⊥
-zero_one z = omega arith
-
 pub none_some : (x : ℕ) → ◌≡◌ {A = Option ℕ} None (Some x) → ⊥
-none_some x w = let z : ◌≡◌ {A = ℕ} 0 1 = cc in zero_one z
+none_some x w = cc
 
 -- what holds of a result that is no refusal
 abbrev pub WhereOk : {A : Type 0} → (Done A → Type 0) → Result (Done A) Error → Type 0
@@ -70,22 +67,22 @@ adv_or_refuse error (Some a) = adv_pure a
 adv_or_refuse error None = λ p xs e. tt
 
 -- a step over a byte makes it the current one, below the limit
-pub current_is : (p x : ℕ) (a : Result (Option ℕ) ℕ) (b : Option ℕ) → current p x a ≡ Ok b → (b ≡ Some x) × (p < limit)
+pub current_is : (p x : ℕ) (a : Result (Option ℕ) Fault) (b : Option ℕ) → current p x a ≡ Ok b → (b ≡ Some x) × (p < limit)
 current_is p x (Ok c) b e = below (leb limit p) refl e
   where
     below : (t : Bool) → leb limit p ≡ t → cond t (Err (TooLong p)) (Ok (Some x)) ≡ Ok b → (b ≡ Some x) × (p < limit)
-    below true t w = let z : ◌≡◌ {A = ℕ} 0 1 = cc in absurd (zero_one z)
+    below true t w = cc
     below false t w = (cc, leb-false limit p t)
-current_is p x (Err code) b e = let z : ◌≡◌ {A = ℕ} 0 1 = cc in absurd (zero_one z)
+current_is p x (Err fault) b e = cc
 
 adv_stepped : (p x : ℕ) (xs : List ℕ) (e : Ending) (s : Result (Option ℕ) Error) → step_gives p (x ∷ xs) e ≡ s → Goes p (length (x ∷ xs)) (stepped s p (x ∷ xs) e)
-adv_stepped p x xs e (Ok None) w = let z : ◌≡◌ {A = Option ℕ} None (Some x) = (current_is p x (answer xs e) None w).0 in absurd (none_some x z)
+adv_stepped p x xs e (Ok None) w = let z = (current_is p x (answer xs e) None w).0 in absurd cc
 adv_stepped p x xs e (Ok (Some y)) w = let l : p < limit = (current_is p x (answer xs e) (Some y) w).1 in omega arith
 adv_stepped p x xs e (Err f) w = tt
 
 adv_step : Advances step
-adv_step p [] End = omega arith
-adv_step p [] (Fault code) = tt
+adv_step p [] (Ok u) = omega arith
+adv_step p [] (Err f) = tt
 adv_step p (x ∷ xs) e = adv_stepped p x xs e (step_gives p (x ∷ xs) e) refl
 
 adv_peek : Advances peek
@@ -108,8 +105,8 @@ adv_line_comment p (x ∷ xs) e =
     (goes_then p x xs e (step_gives p (x ∷ xs) e) refl (line_comment_lem (p + 1) xs e) (adv_line_comment (p + 1) xs e))
 
 adv_in_comment : (s : Comment) → Advances (in_comment s)
-adv_in_comment s p [] End = tt
-adv_in_comment s p [] (Fault code) = tt
+adv_in_comment s p [] (Ok u) = tt
+adv_in_comment s p [] (Err f) = tt
 adv_in_comment s p (x ∷ xs) e =
     goes_then p x xs e (step_gives p (x ∷ xs) e) refl (cond (closes s x) (pure tt (p + 1) xs e) (in_comment (state_after x) (p + 1) xs e))
     (goes_cond (closes s x) (pure tt (p + 1) xs e) (in_comment (state_after x) (p + 1) xs e) (p + 1) (length xs) (adv_pure (tt {0}) (p + 1) xs e) (adv_in_comment (state_after x) (p + 1) xs e))
@@ -228,18 +225,18 @@ adv_behind_slash (Some x) =
 
 pub adv_begun : (x : ℕ) → Advances (begun x)
 adv_begun x =
-    adv_whether (separator x) (pure passed_over) (whether (eqb x 40) (pure (token (Ev.StartArray None))) (whether (eqb x 123) (pure (token (Ev.StartDictionary None))) (whether (eqb x 41 || eqb x 125) (pure (token Ev.EndCollection)) (whether (eqb x 39 || eqb x 34) (as_token (quoted x)) (whether (eqb x 47) potential_comment_lem (as_token (unquoted x)))))))
-    (adv_pure passed_over)
-    (adv_whether (eqb x 40) (pure (token (Ev.StartArray None))) (whether (eqb x 123) (pure (token (Ev.StartDictionary None))) (whether (eqb x 41 || eqb x 125) (pure (token Ev.EndCollection)) (whether (eqb x 39 || eqb x 34) (as_token (quoted x)) (whether (eqb x 47) potential_comment_lem (as_token (unquoted x))))))
-    (adv_pure (token (Ev.StartArray None)))
-    (adv_whether (eqb x 123) (pure (token (Ev.StartDictionary None))) (whether (eqb x 41 || eqb x 125) (pure (token Ev.EndCollection)) (whether (eqb x 39 || eqb x 34) (as_token (quoted x)) (whether (eqb x 47) potential_comment_lem (as_token (unquoted x)))))
-    (adv_pure (token (Ev.StartDictionary None)))
-    (adv_whether (eqb x 41 || eqb x 125) (pure (token Ev.EndCollection)) (whether (eqb x 39 || eqb x 34) (as_token (quoted x)) (whether (eqb x 47) potential_comment_lem (as_token (unquoted x))))
-    (adv_pure (token Ev.EndCollection))
-    (adv_whether (eqb x 39 || eqb x 34) (as_token (quoted x)) (whether (eqb x 47) potential_comment_lem (as_token (unquoted x)))
-    (adv_as_token (quoted x) (adv_quoted x))
-    (adv_whether (eqb x 47) potential_comment_lem (as_token (unquoted x))
-    (adv_bind peek behind_slash adv_peek adv_behind_slash)
+    let plain-or : Run Item = as_token (unquoted x) in
+    let slash-or : Run Item = whether (eqb x 47) potential_comment_lem plain-or in
+    let quote-or : Run Item = whether (eqb x 39 || eqb x 34) (as_token (quoted x)) slash-or in
+    let end-or : Run Item = whether (eqb x 41 || eqb x 125) (pure (token Ev.EndCollection)) quote-or in
+    let dictionary-or : Run Item = whether (eqb x 123) (pure (token (Ev.StartDictionary None))) end-or in
+    let array-or : Run Item = whether (eqb x 40) (pure (token (Ev.StartArray None))) dictionary-or in
+    adv_whether (separator x) (pure passed_over) array-or (adv_pure passed_over)
+    (adv_whether (eqb x 40) (pure (token (Ev.StartArray None))) dictionary-or (adv_pure (token (Ev.StartArray None)))
+    (adv_whether (eqb x 123) (pure (token (Ev.StartDictionary None))) end-or (adv_pure (token (Ev.StartDictionary None)))
+    (adv_whether (eqb x 41 || eqb x 125) (pure (token Ev.EndCollection)) quote-or (adv_pure (token Ev.EndCollection))
+    (adv_whether (eqb x 39 || eqb x 34) (as_token (quoted x)) slash-or (adv_as_token (quoted x) (adv_quoted x))
+    (adv_whether (eqb x 47) potential_comment_lem plain-or (adv_bind peek behind_slash adv_peek adv_behind_slash)
     (adv_as_token (unquoted x) (adv_unquoted x)))))))
 
 -- an item goes forward
@@ -270,7 +267,7 @@ module _ (f g : List ℕ → Run (List ℕ)) (e : Ending) (n : ℕ) (h : (more :
       ap (cond (eqb x q) (pure bs p ys e)) (same_onward (extended bs x p ys e) f g e n (leaves (extended bs x p ys e) p (length ys) n l (adv_extended bs x p ys e)) h)
 
 -- a byte of a quoted text is taken
-taken_byte : (s : Result (Option ℕ) Error) (p y : ℕ) (ys : List ℕ) (e : Ending) → Leaves (length ys) (onward (stepped s p (y ∷ ys) e) present e)
+pub taken_byte : (s : Result (Option ℕ) Error) (p y : ℕ) (ys : List ℕ) (e : Ending) → Leaves (length ys) (onward (stepped s p (y ∷ ys) e) present e)
 taken_byte (Ok None) p y ys e = tt
 taken_byte (Ok (Some x)) p y ys e = omega arith
 taken_byte (Err error) p y ys e = tt
@@ -278,16 +275,10 @@ taken_byte (Err error) p y ys e = tt
 -- any count above the number of bytes will do
 quoted_enough : (n m q : ℕ) (bs : List ℕ) (p : ℕ) (xs : List ℕ) (e : Ending) → length xs < n → length xs < m → quoted_within n q bs p xs e ≡ quoted_within m q bs p xs e
 unfolding quoted_within
-quoted_enough zero m q bs p xs e h k = absurd (never h)
-  where
-    never : length xs < 0 → ⊥
-    never l = omega arith
-quoted_enough (suc n) zero q bs p xs e h k = absurd (never k)
-  where
-    never : length xs < 0 → ⊥
-    never l = omega arith
-quoted_enough (suc n) (suc m) q bs p [] End h k = refl
-quoted_enough (suc n) (suc m) q bs p [] (Fault code) h k = refl
+quoted_enough zero m q bs p xs e h k = absurd (omega arith)
+quoted_enough (suc n) zero q bs p xs e h k = absurd (omega arith)
+quoted_enough (suc n) (suc m) q bs p [] (Ok u) h k = refl
+quoted_enough (suc n) (suc m) q bs p [] (Err f) h k = refl
 quoted_enough (suc n) (suc m) q bs p (x ∷ xs) e h k =
     let l : length xs < n = omega arith in
     let j : length xs < m = omega arith in
@@ -297,8 +288,8 @@ quoted_enough (suc n) (suc m) q bs p (x ∷ xs) e h k =
 -- A quoted text is one byte, or one escape, and the rest of the text.
 pub quoted_on : (q : ℕ) (bs : List ℕ) (p : ℕ) (xs : List ℕ) (e : Ending) → quoted_from q bs p xs e ≡ (quoted_byte >>= quoted_behind (quoted_from q) q bs) p xs e
 unfolding quoted_within quoted_from
-quoted_on q bs p [] End = refl
-quoted_on q bs p [] (Fault code) = refl
+quoted_on q bs p [] (Ok u) = refl
+quoted_on q bs p [] (Err f) = refl
 quoted_on q bs p (x ∷ xs) e =
     same_onward (quoted_byte p (x ∷ xs) e) (quoted_behind (quoted_within (length (x ∷ xs)) q) q bs) (quoted_behind (quoted_from q) q bs) e (length xs) (taken_byte (step_gives p (x ∷ xs) e) p x xs e)
     (same_behind (quoted_within (length (x ∷ xs)) q) (quoted_from q) e (length xs) (λ more p' ys i. quoted_enough (length (x ∷ xs)) (suc (length ys)) q more p' ys e (omega arith) (omega arith)) q bs)
@@ -327,8 +318,8 @@ less_stepped (Ok (Some x)) p y ys e = less_begun (begun x (p + 1) ys e) (length 
 less_stepped (Err f) p y ys e = tt
 
 pub less_from : (p : ℕ) (xs : List ℕ) (e : Ending) → WhereOk (Less (length xs)) (item p xs e)
-less_from p [] End = tt
-less_from p [] (Fault code) = tt
+less_from p [] (Ok u) = tt
+less_from p [] (Err f) = tt
 less_from p (x ∷ xs) e = less_stepped (step_gives p (x ∷ xs) e) p x xs e
 
 -- what is read behind an item matters only where it left less
@@ -345,14 +336,8 @@ module _ (n : ℕ) (f g : ℕ → List ℕ → Stream) (h : (q : ℕ) (ys : List
 -- any count above the number of bytes will do
 reading_enough : (n m p : ℕ) (xs : List ℕ) (e : Ending) → length xs < n → length xs < m → reading_within n p xs e ≡ reading_within m p xs e
 unfolding reading_within
-reading_enough zero m p xs e h k = absurd (never h)
-  where
-    never : length xs < 0 → ⊥
-    never l = omega arith
-reading_enough (suc n) zero p xs e h k = absurd (never k)
-  where
-    never : length xs < 0 → ⊥
-    never l = omega arith
+reading_enough zero m p xs e h k = absurd (omega arith)
+reading_enough (suc n) zero p xs e h k = absurd (omega arith)
 reading_enough (suc n) (suc m) p xs e h k =
     same_then (length xs) (λ q ys. reading_within n q ys e) (λ q ys. reading_within m q ys e)
     (λ q ys l. reading_enough n m q ys e (omega arith) (omega arith)) (item p xs e) (less_from p xs e)

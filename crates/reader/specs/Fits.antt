@@ -2,18 +2,20 @@
 use Rattle.std.specs.Prelude.{◌≡◌, ℕ, zero, suc, ◌+◌, ◌≤◌, Bool, true, false, cond, ◌||◌, List, [], ◌∷◌, ◌++◌, length, ℤ, Some, None, Ok, Err, Option, Result, ◌==◌, nat_le, refl}
 use Rattle.std.proofs.Common.{sym, subst, ◌∙◌, add-one, lit≤, length-append}
 use Rattle.std.proofs.lemmas.Bool.{leb-true, leb-false}
-use Rattle.source.specs.declared.sources.Ending.{Ending as SourceEnding}
+use Rattle.source.specs.Endings.{Ending}
 use Rattle.text.specs.Numbers.{number}
 use Rattle.text.specs.Utf8.{utf8}
 use Rattle.stream.specs.Streams.{Ev, Fit, EachFit, Stream}
 use Rattle.stream.specs.declared.errors.Error.{Error}
 use Rattle.stream.specs.declared.errors.Error.TheVariants.{TextTooLong, InvalidUtf8AsciiStream}
 use Rattle.reader.specs.Comments.{line_comment_lem, block_comment_lem}
-use Rattle.reader.specs.Meanings.{unless_failed}
+use Rattle.reader.specs.Meanings.{in_state}
 use Rattle.reader.specs.Readings.{item_then, reading_within, reading}
 use Rattle.reader.specs.Steps.{Done, Run, pure, refuse, onward, ◌>>=◌, whether, step_gives, step, peek, then}
 use Rattle.reader.specs.Texts.{added, whole_text, ends_plain_lem, plain, integer_or_string, unquoted, quoted_byte, piece, extended, quoted_within, quoted_from, quoted}
 use Rattle.reader.specs.Tokens.{Item, token, passed_over, the_end, as_token, as_nothing, separator, behind_slash, potential_comment_lem, begun, begun_if, item}
+use Rattle.reader.specs.declared.states.State.{State}
+use Rattle.reader.specs.declared.states.State.TheVariants.{Unfilled, Filled, Refused}
 
 -- what a run made, if it was not refused
 abbrev Made : {A : Type 0} → (A → Type 0) → Result (Done A) Error → Type 0
@@ -21,7 +23,7 @@ Made P (Ok d) = P d.value
 Made P (Err f) = Unit {0}
 
 abbrev Makes : {A : Type 0} → (A → Type 0) → Run A → Type 0
-Makes P run = (p : ℕ) (xs : List ℕ) (e : SourceEnding) → Made P (run p xs e)
+Makes P run = (p : ℕ) (xs : List ℕ) (e : Ending) → Made P (run p xs e)
 
 made_cond : {A : Type 0} (P : A → Type 0) (b : Bool) (r s : Result (Done A) Error) → (b ≡ true → Made P r) → (b ≡ false → Made P s) → Made P (cond b r s)
 made_cond P true r s h i = h refl
@@ -31,7 +33,7 @@ made_then : {A : Type 0} (P : A → Type 0) (s : Result (Option ℕ) Error) (r :
 made_then P (Ok b) r h = h
 made_then P (Err f) r h = tt
 
-made_on : {A B : Type 0} (P : A → Type 0) (Q : B → Type 0) (r : Result (Done A) Error) (next : A → Run B) (e : SourceEnding) → Made P r → ((a : A) → P a → Makes Q (next a)) → Made Q (onward r next e)
+made_on : {A B : Type 0} (P : A → Type 0) (Q : B → Type 0) (r : Result (Done A) Error) (next : A → Run B) (e : Ending) → Made P r → ((a : A) → P a → Makes Q (next a)) → Made Q (onward r next e)
 made_on P Q (Ok d) next e h i = i d.value h d.position d.left e
 made_on P Q (Err f) next e h i = tt
 
@@ -150,15 +152,16 @@ fit_then (Ok d) later h i = go d.value h
     go passed_over f = i d.position d.left
     go the_end f = tt
 
-fit_within : (n p : ℕ) (xs : List ℕ) (e : SourceEnding) → EachFit (reading_within n p xs e).events
+fit_within : (n p : ℕ) (xs : List ℕ) (e : Ending) → EachFit (reading_within n p xs e).events
 unfolding reading_within
 fit_within zero p xs e = tt
 fit_within (suc n) p xs e = fit_then (item p xs e) (λ q ys. reading_within n q ys e) (fit_item p xs e) (λ q ys. fit_within n q ys e)
 
-pub fit_reading : (p : ℕ) (xs : List ℕ) (e : SourceEnding) → EachFit (reading p xs e).events
+pub fit_reading : (p : ℕ) (xs : List ℕ) (e : Ending) → EachFit (reading p xs e).events
 unfolding reading
 fit_reading p xs e = fit_within (suc (length xs)) p xs e
 
-pub fit_unless : (o : Option Error) (s : Stream) → EachFit s.events → EachFit (unless_failed o s).events
-fit_unless (Some f) s h = tt
-fit_unless None s h = h
+pub fit_in_state : (state : State) (all later : Stream) → EachFit all.events → EachFit later.events → EachFit (in_state state all later).events
+fit_in_state Unfilled all later h i = h
+fit_in_state Filled all later h i = i
+fit_in_state (Refused f) all later h i = tt

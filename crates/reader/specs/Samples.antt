@@ -1,19 +1,18 @@
 -- Readings, computed.
-use Rattle.std.specs.Prelude.{◌≡◌, ℕ, List, [], ◌∷◌, ◌++◌, replicate, pos, None, codes}
-use Rattle.source.specs.declared.sources.Ending.TheVariants.{End, Fault}
+use Rattle.std.specs.Prelude.{◌≡◌, ℕ, List, [], ◌∷◌, ◌++◌, replicate, pos, None, Ok, Err, codes}
+use Rattle.source.specs.Endings.{at_end, faulty}
 use Rattle.stream.specs.Streams.{Ev, stream}
 use Rattle.stream.specs.declared.errors.Error.{Error}
 use Rattle.stream.specs.declared.errors.Error.TheVariants.{Io, TextTooLong, UnclosedString, IncompleteComment, InvalidUtf8AsciiStream, InvalidOctalString, InvalidUtf16String}
-use Rattle.stream.specs.declared.sources.Ending.{Ending}
 use Rattle.reader.specs.Readings.{reading}
 
 -- the bytes are the whole of a source that ends with the end, and read as these events, and then the end
 abbrev pub ◌reads◌ : List ℕ → List Ev → Type 0
-bytes reads events = reading 0 bytes End ≡ stream events Ending.End
+bytes reads events = reading 0 bytes at_end ≡ stream events (Ok tt)
 
 -- or nothing but a refusal
 abbrev pub ◌refused◌ : List ℕ → Error → Type 0
-bytes refused error = reading 0 bytes End ≡ stream [] (Ending.Refused error)
+bytes refused error = reading 0 bytes at_end ≡ stream [] (Err error)
 
 infix 30 ◌reads◌
 infix 30 ◌refused◌
@@ -48,4 +47,4 @@ pub record Samples : Type 0 where
   pub lone_unit : in_quotes (codes "\\UDCA9") refused InvalidUtf16String 8
   pub longest : replicate 1024 97 reads Ev.String (replicate 1024 97) ∷ []
   pub too_long : replicate 1025 49 refused TextTooLong 1025
-  pub torn : reading 0 (codes "a b") (Fault 7) ≡ stream (Ev.String (codes "a") ∷ []) (Ending.Refused (Io 7 2))
+  pub torn : reading 0 (codes "a b") (faulty 7) ≡ stream (Ev.String (codes "a") ∷ []) (Err (Io 7 2))

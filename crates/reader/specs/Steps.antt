@@ -1,7 +1,8 @@
 -- How the reader goes over bytes: step by step, with a position and one byte of lookahead.
 use Rattle.std.specs.Prelude.{ℕ, ◌+◌, Bool, cond, List, [], ◌∷◌, Some, None, Ok, Err, Option, Result, nat_le}
 use Rattle.source.specs.Asking.{answer, ended, first, rest}
-use Rattle.source.specs.declared.sources.Ending.{Ending}
+use Rattle.source.specs.Endings.{Ending}
+use Rattle.source.specs.declared.sources.Fault.{Fault}
 use Rattle.stream.specs.declared.errors.Error.{Error}
 use Rattle.stream.specs.declared.errors.Error.TheVariants.{Io, TooLong}
 
@@ -43,18 +44,18 @@ or_refuse error (Some a) = pure a
 or_refuse error None = refuse error
 
 -- what a fetch at p meets: a byte, the end, or the source's fault
-abbrev pub fetched : ℕ → Result (Option ℕ) ℕ → Result (Option ℕ) Error
+abbrev pub fetched : ℕ → Result (Option ℕ) Fault → Result (Option ℕ) Error
 fetched p (Ok b) = Ok b
-fetched p (Err code) = Err (Io code p)
+fetched p (Err fault) = Err (Io fault.code p)
 
 -- the last position
 abbrev pub limit : ℕ
 limit = 16777215
 
 -- A step at p makes the lookahead x the current byte, once it has fetched a new lookahead, and may not pass the limit.
-abbrev pub current : ℕ → ℕ → Result (Option ℕ) ℕ → Result (Option ℕ) Error
+abbrev pub current : ℕ → ℕ → Result (Option ℕ) Fault → Result (Option ℕ) Error
 current p x (Ok b) = cond (nat_le limit p) (Err (TooLong p)) (Ok (Some x))
-current p x (Err code) = Err (Io code p)
+current p x (Err fault) = Err (Io fault.code p)
 
 -- the current byte that a step at p makes of the bytes not yet taken; with none, the end
 abbrev pub step_gives : ℕ → List ℕ → Ending → Result (Option ℕ) Error

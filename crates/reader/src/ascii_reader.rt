@@ -1,18 +1,16 @@
 // The reader of ASCII property lists over any byte source.
-ghost use Rattle.std.specs.Prelude.{◌≡◌, ◌≤◌, true, [], length, take, IfSome, IfOk};
-ghost use Rattle.text.specs.Utf8.{scalar};
+ghost use Rattle.std.specs.Prelude.{◌≡◌, ◌≤◌, [], ◌∷◌, take, IfOk};
 ghost use Rattle.stream.specs.Events.{text_length_lem};
-ghost use Rattle.stream.specs.Scratch.{beyond};
 ghost use Rattle.reader.specs.Comments.{line_comment_lem, block_comment_lem};
 ghost use Rattle.reader.specs.Kinds.{error_at};
-ghost use Rattle.reader.specs.Meanings.{meaning, Reads, reading_of};
+ghost use Rattle.reader.specs.Meanings.{meaning, Started, Reads, reading_of};
 ghost use Rattle.reader.specs.Readings.{reading};
-ghost use Rattle.reader.specs.States.{seen, Full, IsByte, over_byte, Fetched, Filled, Stepped, Ran, text_at, shown, item_at, Fitting, untaken, ends};
+ghost use Rattle.reader.specs.States.{seen, Fetched, Stepped, Ran, text_at, shown, item_at, Fitting, untaken, ends};
 ghost use Rattle.reader.specs.Tokens.{potential_comment_lem, begun};
-ghost use Rattle.reader.specs.Texts.{quoted_byte, utf16_code_unit_lem, second_code_unit_lem, utf16_escape_lem, octal_escape_lem, named, escape, extended, ends_plain_lem, plain, quoted_from, unquoted, quoted};
-ghost use Rattle.reader.specs.Fits.{fit_reading, fit_unless};
+ghost use Rattle.reader.specs.Texts.{added, quoted_byte, utf16_code_unit_lem, second_code_unit_lem, utf16_escape_lem, octal_escape_lem, named, escape, extended, ends_plain_lem, plain, quoted_from, unquoted, quoted};
+ghost use Rattle.reader.specs.Fits.{fit_reading, fit_in_state};
 
-use crate::states::{Comment, ErrorKind, Lookahead};
+use crate::states::{Comment, ErrorKind, State};
 use source::sources::ByteSource;
 use stream::errors::Error;
 use stream::events::Event;
@@ -33,126 +31,174 @@ const BACKSLASH: u8 = b'\\';
 
 #[derive(Drop)]
 pub struct AsciiReader<S> {
+    scanner: Scanner<S>,
+    state: State,
+}
+
+// What goes over the bytes of a source, once the first of them was fetched.
+#[derive(Drop)]
+struct Scanner<S> {
     source: S,
     // How many bytes were taken.
     position: u32,
-    // The byte behind them, to avoid backtracking.
-    peeked: Lookahead,
-    // The first refusal, which is then repeated.
-    failed: Option<Error>,
+    // The byte behind them, to avoid backtracking, if there is one.
+    peeked: Option<u8>,
 }
 
 impl<S: ByteSource> AsciiReader<S> {
     pub fn new(source: S) -> AsciiReader<S>
         ensures { meaning S.ByteSource result ≡ reading 0 (S.ByteSource.bytes source) (S.ByteSource.ending source) }
     {
-        AsciiReader {
+        let scanner = Scanner {
             source,
             position: 0,
-            peeked: Lookahead::Unfilled,
-            failed: None,
+            peeked: None,
+        };
+        AsciiReader {
+            scanner,
+            state: State::Unfilled,
         }
     }
 
+    // The first call fills the lookahead.
+    fn fill(&mut self) -> Result<(), Error>
+        ensures { Started S.ByteSource self.old result self.new }
+    {
+        match self.state {
+            State::Unfilled => {
+                self.scanner.peeked = self.scanner.read_one()?;
+                self.state = State::Filled;
+                Ok(())
+            }
+            State::Filled => Ok(()),
+            State::Refused(error) => Err(error),
+        }
+    }
+
+    // Reads the next event, with its text at the front of `text`, or the end.
+    fn read(&mut self, text: &mut [u8; TEXT_BYTES]) -> Result<Option<Event>, Error>
+        ensures { Reads (meaning S.ByteSource self.old) result text.new (meaning S.ByteSource self.new) }
+    {
+        self.fill()?;
+        self.scanner.read_next(text)
+    }
+}
+
+impl<S: ByteSource> EventSource for AsciiReader<S> {
+    ghost means = { λ x. meaning S.ByteSource x };
+
+    ghost fit = { λ x.
+        let r = x.scanner in
+        let v = seen S.ByteSource r in
+        let all = S.ByteSource.bytes r.source in
+        let end = S.ByteSource.ending r.source in
+        fit_in_state x.state (reading r.position all end) (reading_of v) (fit_reading r.position all end) (fit_reading v.position (untaken v) (ends v)) };
+
+    fn next(&mut self, scratch: &mut [u8]) -> Result<Option<Event>, Error> {
+        let Some(text) = scratch.first_chunk_mut::<TEXT_BYTES>() else {
+            return Err(Error::ShortScratch);
+        };
+        match self.read(text) {
+            Ok(Some(event)) => {
+                clear(text, event.text_length());
+                Ok(Some(event))
+            }
+            Ok(None) => {
+                clear(text, 0);
+                Ok(None)
+            }
+            Err(error) => {
+                self.state = State::Refused(error);
+                clear(text, 0);
+                Err(error)
+            }
+        }
+    }
+}
+
+impl<S: ByteSource> Scanner<S> {
     fn error(&self, kind: ErrorKind) -> Error
         ensures { result ≡ error_at kind self.now.position }
     {
         kind.with_byte_offset(self.position)
     }
 
-    fn read_one(&mut self) -> Result<Lookahead, Error>
+    fn read_one(&mut self) -> Result<Option<u8>, Error>
         ensures { Fetched (seen S.ByteSource self.old) result (seen S.ByteSource self.new) }
     {
-        match self.source.next() {
-            Ok(Some(b)) => Ok(Lookahead::Byte(b)),
-            Ok(None) => Ok(Lookahead::Over),
-            Err(code) => Err(self.error(ErrorKind::Io(code))),
-        }
-    }
-
-    // The first step fills the lookahead.
-    fn fill(&mut self) -> Result<(), Error>
-        ensures { Filled (seen S.ByteSource self.old) result (seen S.ByteSource self.new) }
-    {
-        if let Lookahead::Unfilled = self.peeked {
-            self.peeked = self.read_one()?;
-        }
-        Ok(())
+        self.source
+            .next()
+            .map_err(|fault| self.error(ErrorKind::Io(fault.code)))
     }
 
     // A step: takes the lookahead, once the next one is fetched, and answers it.
     fn advance(&mut self) -> Result<Option<u8>, Error>
         ensures { Stepped (seen S.ByteSource self.old) result (seen S.ByteSource self.new) }
     {
-        self.fill()?;
-        let Lookahead::Byte(current) = self.peeked else {
+        let Some(current) = self.peeked else {
             return Ok(None);
         };
-        self.step_over()?;
-        Ok(Some(current))
-    }
-
-    // A step over a lookahead that is a byte.
-    fn step_over(&mut self) -> Result<(), Error>
-        requires { IsByte self.old.peeked }
-        ensures { Stepped (seen S.ByteSource self.old) (over_byte self.old.peeked result) (seen S.ByteSource self.new) }
-    {
         self.peeked = self.read_one()?;
         if self.position >= LAST_POSITION {
             return Err(self.error(ErrorKind::TooLong));
         }
         self.position += 1;
-        Ok(())
+        Ok(Some(current))
     }
 
-    // Adds the rest of a plain token to the `start` bytes in the scratch, up to the end of input or a byte that ends the token.
-    fn unquoted_bytes(&mut self, scratch: &mut [u8], start: usize) -> Result<usize, Error>
-        requires full { Full self.old.peeked }
-        requires room { 1024 ≤ length scratch.old }
-        requires start { start ≤ 1024 }
-        ensures ran { Ran (plain (take start scratch.old)) (seen S.ByteSource self.old) (text_at result scratch.new) (seen S.ByteSource self.new) }
+    // Adds a byte to the text of `n` bytes at the front of `text`. These two are no struct: each function that is lent one would
+    // have to promise that it still holds the same array.
+    fn add_byte(&self, text: &mut [u8; TEXT_BYTES], n: usize, byte: u8) -> Result<usize, Error>
+        ensures ran { Ran (added (take n text.old) (byte ∷ [])) (seen S.ByteSource self.now) (text_at result text.new) (seen S.ByteSource self.now) }
         ensures fits { IfOk result (λ m. m ≤ 1024) }
-        ensures kept { beyond scratch.new ≡ beyond scratch.old }
     {
-        let mut n = start;
-        while let Lookahead::Byte(c) = self.peeked {
-            if ends_plain(c) {
-                break;
-            }
-            self.step_over()?;
-            if n >= TEXT_BYTES {
-                return Err(self.error(ErrorKind::TextTooLong));
-            }
-            scratch[n] = c;
-            n += 1;
+        if n >= TEXT_BYTES {
+            return Err(self.error(ErrorKind::TextTooLong));
+        }
+        text[n] = byte;
+        Ok(n + 1)
+    }
+
+    // Puts the plain token that begins with `first` into `text`, up to the end of input or a byte that ends the token.
+    fn unquoted_bytes(&mut self, first: u8, text: &mut [u8; TEXT_BYTES]) -> Result<usize, Error>
+        ensures ran { Ran (plain (first ∷ [])) (seen S.ByteSource self.old) (text_at result text.new) (seen S.ByteSource self.new) }
+        ensures fits { IfOk result (λ m. m ≤ 1024) }
+    {
+        text[0] = first;
+        let mut n = 1;
+        while let Some(c) = self.peeked
+            && !ends_plain(c)
+        {
+            self.advance()?;
+            n = self.add_byte(text, n, c)?;
         }
         Ok(n)
     }
 
     // The plain token that begins with `first`: an Integer if it reads as a number, else a String.
-    fn unquoted_string_literal(&mut self, first: u8, scratch: &mut [u8]) -> Result<Event, Error>
-        requires full { Full self.old.peeked }
-        requires room { 1024 ≤ length scratch.old }
-        ensures ran { Ran (unquoted first) (seen S.ByteSource self.old) (shown result scratch.new) (seen S.ByteSource self.new) }
+    // An event carries a plain number, so each function that answers one says that it fits: a type for the lengths up to
+    // 1,024 would have to be taken out of every event again in `next`.
+    fn unquoted_string_literal(
+        &mut self,
+        first: u8,
+        text: &mut [u8; TEXT_BYTES],
+    ) -> Result<Event, Error>
+        ensures ran { Ran (unquoted first) (seen S.ByteSource self.old) (shown result text.new) (seen S.ByteSource self.new) }
         ensures fits { IfOk result (λ ev. text_length_lem ev ≤ 1024) }
-        ensures kept { beyond scratch.new ≡ beyond scratch.old }
     {
-        scratch[0] = first;
-        let n = self.unquoted_bytes(scratch, 1)?;
-        let text = &scratch[0..n];
-        if !is_utf8(text) {
+        let n = self.unquoted_bytes(first, text)?;
+        if !is_utf8(&text[..n]) {
             return Err(self.error(ErrorKind::InvalidUtf8AsciiStream));
         }
-        match Integer::from_str(text) {
+        match Integer::from_str(&text[..n]) {
             Some(i) => Ok(Event::Integer(i)),
             None => Ok(Event::String(n)),
         }
     }
 
     // The character of a `\U` escape: a UTF-16 unit, or two that are a pair.
-    fn utf16_escape(&mut self) -> Result<u32, Error>
-        ensures ran { Ran utf16_escape_lem (seen S.ByteSource self.old) result (seen S.ByteSource self.new) }
-        ensures scalar { IfOk result (λ c. scalar c ≡ true) }
+    fn utf16_escape(&mut self) -> Result<char, Error>
+        ensures { Ran utf16_escape_lem (seen S.ByteSource self.old) result (seen S.ByteSource self.new) }
     {
         let unit = self.utf16_code_unit()?;
         let second = if is_surrogate(unit) {
@@ -160,10 +206,7 @@ impl<S: ByteSource> AsciiReader<S> {
         } else {
             None
         };
-        match decode_utf16(unit, second) {
-            Some(character) => Ok(character),
-            None => Err(self.error(ErrorKind::InvalidUtf16String)),
-        }
+        decode_utf16(unit, second).ok_or(self.error(ErrorKind::InvalidUtf16String))
     }
 
     // The second unit of a pair, in an escape of its own.
@@ -171,7 +214,7 @@ impl<S: ByteSource> AsciiReader<S> {
         ensures { Ran second_code_unit_lem (seen S.ByteSource self.old) result (seen S.ByteSource self.new) }
     {
         let c = self.advance_quoted_string()?;
-        let (b'\\', Lookahead::Byte(b'u' | b'U')) = (c, self.peeked) else {
+        let (b'\\', Some(b'u' | b'U')) = (c, self.peeked) else {
             return Err(self.error(ErrorKind::InvalidUtf16String));
         };
         self.advance_quoted_string()?;
@@ -186,102 +229,78 @@ impl<S: ByteSource> AsciiReader<S> {
         let b = self.advance_quoted_string()?;
         let c = self.advance_quoted_string()?;
         let d = self.advance_quoted_string()?;
-        match escapes::utf16_code_unit([a, b, c, d]) {
-            Some(unit) => Ok(unit),
-            None => Err(self.error(ErrorKind::InvalidUtf16String)),
-        }
+        escapes::utf16_code_unit([a, b, c, d]).ok_or(self.error(ErrorKind::InvalidUtf16String))
     }
 
     // A step inside a quoted text, where the end is refused.
     fn advance_quoted_string(&mut self) -> Result<u8, Error>
         ensures { Ran quoted_byte (seen S.ByteSource self.old) result (seen S.ByteSource self.new) }
     {
-        match self.advance()? {
-            Some(c) => Ok(c),
-            None => Err(self.error(ErrorKind::UnclosedString)),
-        }
+        self.advance()?.ok_or(self.error(ErrorKind::UnclosedString))
     }
 
     // The character of three octal digits, the first of which was taken.
-    fn octal_escape(&mut self, first: u8) -> Result<u32, Error>
-        ensures ran { Ran (octal_escape_lem first) (seen S.ByteSource self.old) result (seen S.ByteSource self.new) }
-        ensures scalar { IfOk result (λ c. scalar c ≡ true) }
+    fn octal_escape(&mut self, first: u8) -> Result<char, Error>
+        ensures { Ran (octal_escape_lem first) (seen S.ByteSource self.old) result (seen S.ByteSource self.new) }
     {
         let second = self.advance_quoted_string()?;
         let third = self.advance_quoted_string()?;
-        match octal_value([first, second, third]) {
-            Some(code) => Ok(map_next_step_to_unicode(u32::from(code))),
-            None => Err(self.error(ErrorKind::InvalidOctalString)),
-        }
+        octal_value([first, second, third])
+            .and_then(|code| char::from_u32(map_next_step_to_unicode(u32::from(code))))
+            .ok_or(self.error(ErrorKind::InvalidOctalString))
     }
 
     // The character that the bytes behind a backslash stand for.
-    fn escape(&mut self) -> Result<u32, Error>
-        ensures ran { Ran escape (seen S.ByteSource self.old) result (seen S.ByteSource self.new) }
-        ensures scalar { IfOk result (λ c. scalar c ≡ true) }
+    fn escape(&mut self) -> Result<char, Error>
+        ensures { Ran escape (seen S.ByteSource self.old) result (seen S.ByteSource self.new) }
     {
         let c = self.advance_quoted_string()?;
         match c {
             b'0'..=b'7' => self.octal_escape(c),
             b'U' => self.utf16_escape(),
-            _ => match named_escape(c) {
-                Some(character) => Ok(character),
-                None => Err(self.error(ErrorKind::InvalidUtf8AsciiStream)),
-            },
+            _ => named_escape(c).ok_or(self.error(ErrorKind::InvalidUtf8AsciiStream)),
         }
     }
 
-    // Adds the character of an escape, whose backslash was taken, to the text of `n` bytes in the scratch.
-    fn add_escape(&mut self, scratch: &mut [u8], n: usize) -> Result<usize, Error>
-        requires room { 1024 ≤ length scratch.old }
-        requires start { n ≤ 1024 }
-        ensures ran { Ran (extended (take n scratch.old) 92) (seen S.ByteSource self.old) (text_at result scratch.new) (seen S.ByteSource self.new) }
+    // Adds to the text of `n` bytes at the front of `text` what the byte `c` of a quoted text, which was taken, stands for. Behind a
+    // backslash more bytes are taken.
+    fn extend(&mut self, text: &mut [u8; TEXT_BYTES], n: usize, c: u8) -> Result<usize, Error>
+        ensures ran { Ran (extended (take n text.old) c) (seen S.ByteSource self.old) (text_at result text.new) (seen S.ByteSource self.new) }
         ensures fits { IfOk result (λ m. m ≤ 1024) }
-        ensures kept { beyond scratch.new ≡ beyond scratch.old }
     {
-        let character = self.escape()?;
-        match encode_utf8(character, &mut scratch[0..TEXT_BYTES], n) {
-            Some(end) => Ok(end),
-            None => Err(self.error(ErrorKind::TextTooLong)),
+        if c == BACKSLASH {
+            let character = self.escape()?;
+            let code = u32::from(character);
+            return encode_utf8(code, text, n).ok_or(self.error(ErrorKind::TextTooLong));
         }
+        self.add_byte(text, n, c)
     }
 
-    // Puts a quoted text into the scratch, up to its closing quote, which is taken.
-    fn quoted_bytes(&mut self, quote: u8, scratch: &mut [u8]) -> Result<usize, Error>
-        requires full { Full self.old.peeked }
-        requires room { 1024 ≤ length scratch.old }
-        ensures ran { Ran (quoted_from quote []) (seen S.ByteSource self.old) (text_at result scratch.new) (seen S.ByteSource self.new) }
+    // Puts a quoted text into `text`, up to its closing quote, which is taken.
+    fn quoted_bytes(&mut self, quote: u8, text: &mut [u8; TEXT_BYTES]) -> Result<usize, Error>
+        ensures ran { Ran (quoted_from quote []) (seen S.ByteSource self.old) (text_at result text.new) (seen S.ByteSource self.new) }
         ensures fits { IfOk result (λ m. m ≤ 1024) }
-        ensures kept { beyond scratch.new ≡ beyond scratch.old }
     {
         let mut n = 0;
-        while let Lookahead::Byte(c) = self.peeked {
-            self.step_over()?;
+        loop {
+            let c = self.advance_quoted_string()?;
             if c == quote {
                 return Ok(n);
             }
-            if c == BACKSLASH {
-                n = self.add_escape(scratch, n)?;
-                continue;
-            }
-            if n >= TEXT_BYTES {
-                return Err(self.error(ErrorKind::TextTooLong));
-            }
-            scratch[n] = c;
-            n += 1;
+            n = self.extend(text, n, c)?;
         }
-        Err(self.error(ErrorKind::UnclosedString))
     }
 
-    fn quoted_string_literal(&mut self, quote: u8, scratch: &mut [u8]) -> Result<Event, Error>
-        requires full { Full self.old.peeked }
-        requires room { 1024 ≤ length scratch.old }
-        ensures ran { Ran (quoted quote) (seen S.ByteSource self.old) (shown result scratch.new) (seen S.ByteSource self.new) }
+    fn quoted_string_literal(
+        &mut self,
+        quote: u8,
+        text: &mut [u8; TEXT_BYTES],
+    ) -> Result<Event, Error>
+        ensures ran { Ran (quoted quote) (seen S.ByteSource self.old) (shown result text.new) (seen S.ByteSource self.new) }
         ensures fits { IfOk result (λ ev. text_length_lem ev ≤ 1024) }
-        ensures kept { beyond scratch.new ≡ beyond scratch.old }
     {
-        let length = self.quoted_bytes(quote, scratch)?;
-        if !is_utf8(&scratch[0..length]) {
+        let length = self.quoted_bytes(quote, text)?;
+        if !is_utf8(&text[..length]) {
             return Err(self.error(ErrorKind::InvalidUtf8AsciiStream));
         }
         Ok(Event::String(length))
@@ -289,14 +308,12 @@ impl<S: ByteSource> AsciiReader<S> {
 
     // Takes the bytes up to the end of the line, or of the input.
     fn line_comment(&mut self) -> Result<(), Error>
-        requires { Full self.old.peeked }
         ensures { Ran line_comment_lem (seen S.ByteSource self.old) result (seen S.ByteSource self.new) }
     {
-        while let Lookahead::Byte(c) = self.peeked {
-            if c == b'\n' {
-                break;
-            }
-            self.step_over()?;
+        while let Some(c) = self.peeked
+            && c != b'\n'
+        {
+            self.advance()?;
         }
         Ok(())
     }
@@ -307,67 +324,57 @@ impl<S: ByteSource> AsciiReader<S> {
     {
         self.advance()?;
         let mut state = Comment::Plain;
-        loop {
-            let Some(c) = self.advance()? else {
-                return Err(self.error(ErrorKind::IncompleteComment));
-            };
+        while let Some(c) = self.advance()? {
             match (state, c) {
                 (Comment::Star, b'/') => return Ok(()),
                 (_, b'*') => state = Comment::Star,
                 _ => state = Comment::Plain,
             }
         }
+        Err(self.error(ErrorKind::IncompleteComment))
     }
 
     // Behind a `/`: None if it began a comment, which is taken, and the event of a plain token if it did not.
-    fn potential_comment(&mut self, scratch: &mut [u8]) -> Result<Option<Event>, Error>
-        requires full { Full self.old.peeked }
-        requires room { 1024 ≤ length scratch.old }
-        ensures ran { Ran potential_comment_lem (seen S.ByteSource self.old) (item_at result scratch.new) (seen S.ByteSource self.new) }
+    fn potential_comment(&mut self, text: &mut [u8; TEXT_BYTES]) -> Result<Option<Event>, Error>
+        ensures ran { Ran potential_comment_lem (seen S.ByteSource self.old) (item_at result text.new) (seen S.ByteSource self.new) }
         ensures fits { Fitting result }
-        ensures kept { beyond scratch.new ≡ beyond scratch.old }
     {
         match self.peeked {
-            Lookahead::Byte(b'/') => {
+            Some(b'/') => {
                 self.line_comment()?;
                 Ok(None)
             }
-            Lookahead::Byte(b'*') => {
+            Some(b'*') => {
                 self.block_comment()?;
                 Ok(None)
             }
-            Lookahead::Byte(_) => Ok(Some(self.unquoted_string_literal(b'/', scratch)?)),
-            _ => Err(self.error(ErrorKind::IncompleteComment)),
+            Some(_) => Ok(Some(self.unquoted_string_literal(b'/', text)?)),
+            None => Err(self.error(ErrorKind::IncompleteComment)),
         }
     }
 
     // What the byte `c` begins: None if it is passed over, with a comment that it opens.
-    fn read_item(&mut self, c: u8, scratch: &mut [u8]) -> Result<Option<Event>, Error>
-        requires full { Full self.old.peeked }
-        requires room { 1024 ≤ length scratch.old }
-        ensures ran { Ran (begun c) (seen S.ByteSource self.old) (item_at result scratch.new) (seen S.ByteSource self.new) }
+    fn read_item(&mut self, c: u8, text: &mut [u8; TEXT_BYTES]) -> Result<Option<Event>, Error>
+        ensures ran { Ran (begun c) (seen S.ByteSource self.old) (item_at result text.new) (seen S.ByteSource self.new) }
         ensures fits { Fitting result }
-        ensures kept { beyond scratch.new ≡ beyond scratch.old }
     {
         match c {
             b'(' => Ok(Some(Event::StartArray(None))),
             b'{' => Ok(Some(Event::StartDictionary(None))),
             b')' | b'}' => Ok(Some(Event::EndCollection)),
-            b'\'' | b'"' => Ok(Some(self.quoted_string_literal(c, scratch)?)),
-            b'/' => self.potential_comment(scratch),
+            b'\'' | b'"' => Ok(Some(self.quoted_string_literal(c, text)?)),
+            b'/' => self.potential_comment(text),
             b' ' | b'\r' | b'\t' | b'\n' | b',' | b';' | b'=' => Ok(None),
-            _ => Ok(Some(self.unquoted_string_literal(c, scratch)?)),
+            _ => Ok(Some(self.unquoted_string_literal(c, text)?)),
         }
     }
 
-    // Takes bytes until there is an event, with its text at the front of the scratch, or the end.
-    fn read_next(&mut self, scratch: &mut [u8]) -> Result<Option<Event>, Error>
-        requires { 1024 ≤ length scratch.old }
-        ensures reads { Reads (seen S.ByteSource self.old) result scratch.new (seen S.ByteSource self.new) }
-        ensures kept { beyond scratch.new ≡ beyond scratch.old }
+    // Takes bytes until there is an event, with its text at the front of `text`, or the end.
+    fn read_next(&mut self, text: &mut [u8; TEXT_BYTES]) -> Result<Option<Event>, Error>
+        ensures { Reads (reading_of (seen S.ByteSource self.old)) result text.new (reading_of (seen S.ByteSource self.new)) }
     {
         while let Some(c) = self.advance()? {
-            if let Some(event) = self.read_item(c, scratch)? {
+            if let Some(event) = self.read_item(c, text)? {
                 return Ok(Some(event));
             }
         }
@@ -375,43 +382,11 @@ impl<S: ByteSource> AsciiReader<S> {
     }
 }
 
-impl<S: ByteSource> EventSource for AsciiReader<S> {
-    ghost means = { λ x. meaning S.ByteSource x };
-
-    ghost fit = { λ x.
-        let v = seen S.ByteSource x in
-        fit_unless x.failed (reading_of v) (fit_reading v.position (untaken v) (ends v)) };
-
-    fn next(&mut self, scratch: &mut [u8]) -> Result<Option<Event>, Error> {
-        if scratch.len() < TEXT_BYTES {
-            return Err(Error::ShortScratch);
-        }
-        if let Some(error) = self.failed {
-            clear(scratch, 0);
-            return Err(error);
-        }
-        match self.read_next(scratch) {
-            Ok(Some(event)) => {
-                clear(scratch, event.text_length());
-                Ok(Some(event))
-            }
-            Ok(None) => {
-                clear(scratch, 0);
-                Ok(None)
-            }
-            Err(error) => {
-                self.failed = Some(error);
-                clear(scratch, 0);
-                Err(error)
-            }
-        }
-    }
-}
-
 // Whether a byte ends a plain token.
 fn ends_plain(c: u8) -> bool
     ensures { result ≡ ends_plain_lem c }
 {
+    // One test for most bytes: with `}` in the pattern the loop over a plain token is slower.
     if c > b'=' {
         return c == b'}';
     }
@@ -419,19 +394,18 @@ fn ends_plain(c: u8) -> bool
 }
 
 // The character that a letter, a quote or a backslash stands for behind a backslash.
-fn named_escape(c: u8) -> Option<u32>
-    ensures value { result ≡ named c }
-    ensures scalar { IfSome result (λ x. scalar x ≡ true) }
+fn named_escape(c: u8) -> Option<char>
+    ensures { result ≡ named c }
 {
     match c {
-        b'\\' | b'"' | b'\'' => Some(u32::from(c)),
-        b'a' => Some(0x07),
-        b'b' => Some(0x08),
-        b'f' => Some(0x0C),
-        b'n' => Some(0x0A),
-        b'r' => Some(0x0D),
-        b't' => Some(0x09),
-        b'v' => Some(0x0B),
+        b'\\' | b'"' | b'\'' => Some(char::from(c)),
+        b'a' => Some('\u{07}'),
+        b'b' => Some('\u{08}'),
+        b'f' => Some('\u{0C}'),
+        b'n' => Some('\n'),
+        b'r' => Some('\r'),
+        b't' => Some('\t'),
+        b'v' => Some('\u{0B}'),
         _ => None,
     }
 }

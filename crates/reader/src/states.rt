@@ -4,12 +4,12 @@ ghost use Rattle.reader.specs.Kinds.{error_at};
 
 use stream::errors::Error;
 
-// What is known of the next byte: nothing before the first step, and behind the last byte that there is none.
+// How far a reader is. Only the first call asks the source for its first byte, and the first refusal is then repeated.
 #[derive(Clone, Copy)]
-pub enum Lookahead {
+pub enum State {
     Unfilled,
-    Byte(u8),
-    Over,
+    Filled,
+    Refused(Error),
 }
 
 // How a block comment goes on: a `/` behind a `*` closes it.
@@ -19,7 +19,7 @@ pub enum Comment {
     Star,
 }
 
-// Why a reading is refused. The reader adds where.
+// Why a reading is refused: the Rust crate's kinds, apart from the cases of `Error`, so that one place adds the position.
 #[derive(Clone, Copy)]
 pub enum ErrorKind {
     Io(u8),

@@ -1,7 +1,7 @@
 use Rattle.std.proofs.Common.{◌≡◌, length}
 use Rattle.reader.specs.Comments.{line_comment_lem}
 use Rattle.reader.specs.States.{Moved, seen, untaken, ends}
-use Rattle.reader.proofs.ascii_reader.AsciiReader.line_comment.Given as goal
+use Rattle.reader.proofs.ascii_reader.Scanner.line_comment.Given as goal
 
 abbrev pub invariant-loop-self : goal.invariant-loop-self
 invariant-loop-self g l =

@@ -4,7 +4,7 @@ use Rattle.reader.specs.States.{Ran, seen}
 use Rattle.reader.specs.Steps.{step}
 use Rattle.reader.specs.declared.states.Comment.TheVariants.{Plain}
 use Rattle.reader.proofs.Chains.{ran_step, ran_then}
-use Rattle.reader.proofs.ascii_reader.AsciiReader.block_comment.Goals as goal
+use Rattle.reader.proofs.ascii_reader.Scanner.block_comment.Goals as goal
 
 pub returns-in-Star-eq47 : goal.returns-in-Star-eq47
 returns-in-Star-eq47 g c =
