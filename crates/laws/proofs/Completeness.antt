@@ -2,8 +2,7 @@
 use Rattle.std.proofs.Common.{◌≡◌, ℕ, ◌+◌, ◌<◌, ◌≤◌, false, cond, eqb, leb, ◌≢◌, List, [], ◌∷◌, ◌++◌, length, Some, Ok, Err, codes, Result, sym, refl, ap, ◌∙◌, subst, inl, inr, arith}
 use Rattle.std.proofs.lemmas.List.{append_assoc, append-nil, length-append}
 use Rattle.std.proofs.lemmas.Bool.{eqb-true, eq-eqb, ne_eqb, lt-leb, cases_Bool}
-use Rattle.source.specs.declared.sources.Ending.{Ending}
-use Rattle.source.specs.declared.sources.Ending.TheVariants.{End, Fault}
+use Rattle.source.specs.Endings.{Ending}
 use Rattle.stream.specs.declared.errors.Error.{Error}
 use Rattle.stream.specs.declared.errors.Error.TheVariants.{TooLong, TextTooLong}
 use Rattle.reader.specs.Comments.{line_comment_lem, closes, state_after, in_comment}
@@ -20,22 +19,22 @@ done a p xs = Ok (record { value = a; position = p; left = xs })
 
 -- A step over the byte before these is sure to be made, but for the limit: it meets no fault.
 abbrev pub Sure : Ending → List ℕ → Type 0
-Sure End xs = Unit {0}
-Sure (Fault code) [] = ⊥
-Sure (Fault code) (x ∷ xs) = Unit {0}
+Sure (Ok u) xs = Unit {0}
+Sure (Err f) [] = ⊥
+Sure (Err f) (x ∷ xs) = Unit {0}
 
 pub sure_append : (e : Ending) (xs ys : List ℕ) → Sure e ys → Sure e (xs ++ ys)
-sure_append End xs ys s = tt
-sure_append (Fault code) [] ys s = s
-sure_append (Fault code) (x ∷ xs) ys s = tt
+sure_append (Ok u) xs ys s = tt
+sure_append (Err f) [] ys s = s
+sure_append (Err f) (x ∷ xs) ys s = tt
 
 pub sure_cons : (e : Ending) (x : ℕ) (xs : List ℕ) → Sure e (x ∷ xs)
-sure_cons End x xs = tt
-sure_cons (Fault code) x xs = tt
+sure_cons (Ok u) x xs = tt
+sure_cons (Err f) x xs = tt
 
 pub sure_step : (p x : ℕ) (xs : List ℕ) (e : Ending) → p < limit → Sure e xs → step_gives p (x ∷ xs) e ≡ Ok (Some x)
-sure_step p x [] End l s = ap (λ b. cond b (Err (TooLong p)) (Ok (Some x))) (lt-leb limit p l)
-sure_step p x [] (Fault code) l s = absurd s
+sure_step p x [] (Ok u) l s = ap (λ b. cond b (Err (TooLong p)) (Ok (Some x))) (lt-leb limit p l)
+sure_step p x [] (Err f) l s = absurd s
 sure_step p x (y ∷ ys) e l s = ap (λ b. cond b (Err (TooLong p)) (Ok (Some x))) (lt-leb limit p l)
 
 pub sure_byte : (p x : ℕ) (xs : List ℕ) (e : Ending) → p < limit → Sure e xs → quoted_byte p (x ∷ xs) e ≡ done x (p + 1) xs

@@ -1,14 +1,13 @@
 -- Sample lists, put together from the format's rules.
-use Rattle.std.proofs.Common.{◌≡◌, ℕ, ◌≤◌, true, false, eqb, List, [], ◌∷◌, length, ℤ, pos, Some, None, codes, Decides, sym, refl, ap, ◌∙◌, inl, inr, arith, lit≤}
+use Rattle.std.proofs.Common.{◌≡◌, ℕ, ◌≤◌, true, false, eqb, List, [], ◌∷◌, length, ℤ, pos, Some, None, codes, Decides, sym, refl, ap, ◌∙◌, inl, inr, arith, lit≤, Ok, Err}
 use Rattle.std.proofs.lemmas.Bool.{eqb-false}
 use Rattle.text.specs.Nextstep.{nextstep}
 use Rattle.text.specs.Notation.{Notation}
 use Rattle.text.specs.Numbers.{number}
 use Rattle.text.specs.Utf8.{Utf8, utf8, encode}
-use Rattle.source.specs.declared.sources.Ending.TheVariants.{End}
+use Rattle.source.specs.Endings.{at_end}
 use Rattle.stream.specs.Streams.{Ev, Stream, stream}
 use Rattle.stream.specs.declared.errors.Error.{Error}
-use Rattle.stream.specs.declared.sources.Ending.{Ending as StreamEnding}
 use Rattle.laws.specs.Format.{no_plain_begins, plain_ends, separators, Text, Named, Escape, Quoted, PlainEvent, EndsPlain, Token, Skipped, Items, Between, Lists}
 use Rattle.laws.specs.Laws.{FormatSamples}
 use Rattle.reader.specs.Readings.{reading_within, reading}
@@ -73,9 +72,9 @@ module _ (decides : (bs : List ℕ) → Decides (utf8 bs) (Utf8 bs)) (notation :
       backslash-apart e = omega arith
 
   -- what is refused is no list
-  refused : (bytes : List ℕ) (error : Error) → length bytes ≤ 16777215 → reading 0 bytes End ≡ stream [] (StreamEnding.Refused error) → (events : List Ev) → Lists bytes events → ⊥
+  refused : (bytes : List ℕ) (error : Error) → length bytes ≤ 16777215 → reading 0 bytes at_end ≡ stream [] (Err error) → (events : List Ev) → Lists bytes events → ⊥
   refused bytes error l w events h =
-      let a : StreamEnding.Refused error ≡ StreamEnding.End = ap (λ (s : Stream). s.ending) (sym w ∙ reads decides notation bytes events h l) in
+      let a : Err error ≡ (Ok tt) = ap (λ (s : Stream). s.ending) (sym w ∙ reads decides notation bytes events h l) in
       let i : ◌≡◌ {A = ℕ} 0 1 = cc in
       omega arith
 

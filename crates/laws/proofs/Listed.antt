@@ -1,15 +1,13 @@
 -- Completeness for items and whole lists: bytes that the format lists are read as their events, whatever follows them.
-use Rattle.std.proofs.Common.{◌≡◌, ℕ, ◌+◌, ◌<◌, ◌≤◌, cond, ◌||◌, eqb, ◌≢◌, ◌⊎◌, List, [], ◌∷◌, ◌++◌, length, ℤ, Some, None, codes, Decides, Option, sym, refl, ap, ◌∙◌, subst, inl, inr, arith}
+use Rattle.std.proofs.Common.{◌≡◌, ℕ, ◌+◌, ◌<◌, ◌≤◌, cond, ◌||◌, eqb, ◌≢◌, ◌⊎◌, List, [], ◌∷◌, ◌++◌, length, ℤ, Some, None, codes, Decides, Option, sym, refl, ap, ◌∙◌, subst, inl, inr, arith, Ok}
 use Rattle.std.proofs.lemmas.List.{append_assoc, append-nil, length-append}
 use Rattle.std.proofs.lemmas.Bool.{eq-eqb, ne_eqb, or_from, cases_eq}
 use Rattle.text.specs.Notation.{Notation}
 use Rattle.text.specs.Numbers.{number}
 use Rattle.text.specs.Utf8.{Utf8, utf8}
-use Rattle.source.specs.declared.sources.Ending.{Ending}
-use Rattle.source.specs.declared.sources.Ending.TheVariants.{End}
+use Rattle.source.specs.Endings.{Ending, at_end}
 use Rattle.stream.specs.Streams.{Ev, stream, over}
 use Rattle.stream.specs.declared.errors.Error.TheVariants.{InvalidUtf8AsciiStream}
-use Rattle.stream.specs.declared.sources.Ending.{Ending as StreamEnding}
 use Rattle.reader.specs.Comments.{line_comment_lem, in_comment, block_comment_lem}
 use Rattle.laws.specs.Format.{OneOf, Each, separators, plain_ends, no_plain_begins, Text, Quoted, Plain, PlainEvent, Number, EndsPlain, SlashGoesOn, BeginsNoComment, Token, LineComment, BlockComment, LineFeedFirst, Skipped, Items, Nothing, Lists}
 use Rattle.laws.specs.Laws.{followed}
@@ -214,16 +212,16 @@ module _ (decides : (bs : List ℕ) → Decides (utf8 bs) (Utf8 bs)) (notation :
   open_line_on rest e s ends bytes p q (inr c) w l =
       reading_on p (bytes ++ rest) e ∙ ap (λ r. item_then r (λ i zs. reading i zs e)) (line_item_on bytes rest c ends p q e s w l)
 
-  at_end : (p : ℕ) → reading p [] End ≡ over StreamEnding.End
-  at_end p = reading_on p [] End
+  nothing_left : (p : ℕ) → reading p [] at_end ≡ over (Ok tt)
+  nothing_left p = reading_on p [] at_end
 
   -- a whole list
-  pub lists_on : (bytes : List ℕ) (events : List Ev) → Lists bytes events → (p : ℕ) → p + length bytes ≤ limit → reading p bytes End ≡ stream events StreamEnding.End
+  pub lists_on : (bytes : List ℕ) (events : List Ev) → Lists bytes events → (p : ℕ) → p + length bytes ≤ limit → reading p bytes at_end ≡ stream events (Ok tt)
   lists_on bytes events h p l =
-      ap (λ bs. reading p bs End) (sym (append-nil bytes))
-      ∙ items_on (λ bs. Nothing bs ⊎ LineComment bs) [] End tt tt (open_line_on [] End tt tt) h p (p + length bytes) refl l
-      ∙ ap (followed events) (at_end (p + length bytes))
-      ∙ ap (λ evs. stream evs StreamEnding.End) (append-nil events)
+      ap (λ bs. reading p bs at_end) (sym (append-nil bytes))
+      ∙ items_on (λ bs. Nothing bs ⊎ LineComment bs) [] at_end tt tt (open_line_on [] at_end tt tt) h p (p + length bytes) refl l
+      ∙ ap (followed events) (nothing_left (p + length bytes))
+      ∙ ap (λ evs. stream evs (Ok tt)) (append-nil events)
 
   -- what ends between tokens, and something that may follow a plain token
   pub between_on : (bytes : List ℕ) (events : List Ev) → Items Nothing bytes events → (b : ℕ) (more : List ℕ) (e : Ending) → OneOf plain_ends b → (p : ℕ) → p + length bytes ≤ limit

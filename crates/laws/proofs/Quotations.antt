@@ -7,7 +7,7 @@ use Rattle.text.specs.Digits.{digit_value, is_digit, all_digits, place_value, nu
 use Rattle.text.specs.Nextstep.{nextstep}
 use Rattle.text.specs.Utf16.{surrogate, high_surrogate, low_surrogate, decode}
 use Rattle.text.specs.Utf8.{encode}
-use Rattle.source.specs.declared.sources.Ending.{Ending}
+use Rattle.source.specs.Endings.{Ending}
 use Rattle.stream.specs.declared.errors.Error.TheVariants.{TextTooLong, InvalidOctalString, InvalidUtf16String, InvalidUtf8AsciiStream}
 use Rattle.laws.specs.Format.{OneOf, Named, CodeUnit, Escape, Quoted}
 use Rattle.laws.specs.Format.Named.{backslash, double_quote, single_quote, alert, backspace, form_feed, new_line, carriage_return, horizontal_tab, vertical_tab}

@@ -6,12 +6,10 @@ use Rattle.text.specs.Notation.{Notation}
 use Rattle.text.specs.Numbers.{number}
 use Rattle.text.specs.Utf8.{Utf8, utf8}
 use Rattle.source.specs.Asking.{answer}
-use Rattle.source.specs.declared.sources.Ending.{Ending}
-use Rattle.source.specs.declared.sources.Ending.TheVariants.{End, Fault}
+use Rattle.source.specs.Endings.{Ending, at_end}
 use Rattle.stream.specs.Streams.{Ev, Stream, stream, over}
 use Rattle.stream.specs.declared.errors.Error.{Error}
 use Rattle.stream.specs.declared.errors.Error.TheVariants.{InvalidUtf8AsciiStream}
-use Rattle.stream.specs.declared.sources.Ending.{Ending as StreamEnding}
 use Rattle.reader.specs.Comments.{line_comment_lem, in_comment, block_comment_lem}
 use Rattle.laws.specs.Format.{OneOf, Each, separators, plain_ends, no_plain_begins, Text, Quoted, PlainEvent, Number, EndsPlain, SlashGoesOn, Token, LineComment, Skipped, Items, Lists, StartsWith}
 use Rattle.reader.specs.Readings.{before, item_then, reading}
@@ -246,8 +244,8 @@ module _ (decides : (bs : List ℕ) → Decides (utf8 bs) (Utf8 bs)) (notation :
   stepped_sound p x xs e (Err f) w = tt
 
   pub item_sound : (p : ℕ) (xs : List ℕ) (e : Ending) → WhereOk (AsItem xs) (item p xs e)
-  item_sound p [] End = refl
-  item_sound p [] (Fault code) = tt
+  item_sound p [] (Ok u) = refl
+  item_sound p [] (Err f) = tt
   item_sound p (x ∷ xs) e = stepped_sound p x xs e (step_gives p (x ∷ xs) e) refl
 
   -- what a reading up to the end has read, from p on
@@ -270,14 +268,14 @@ module _ (decides : (bs : List ℕ) → Decides (utf8 bs) (Utf8 bs)) (notation :
 
   -- from an item on, with the reading of what it left
   module _ (p : ℕ) (xs : List ℕ) (events : List Ev) (later : ℕ → List ℕ → Stream)
-      (nothing : (q : ℕ) → later q [] ≡ over StreamEnding.End)
-      (on : (q : ℕ) (ys : List ℕ) (evs : List Ev) → length ys < length xs → later q ys ≡ stream evs StreamEnding.End → Has-read q ys evs) where
+      (nothing : (q : ℕ) → later q [] ≡ over (Ok tt))
+      (on : (q : ℕ) (ys : List ℕ) (evs : List Ev) → length ys < length xs → later q ys ≡ stream evs (Ok tt) → Has-read q ys evs) where
     from_item : (i : Item) (q : ℕ) (ys : List ℕ) → ItemRead i xs ys → LessBy (length xs) ys i → Forward {A = Item} p (length xs) (record { value = i; position = q; left = ys })
-        → before i (later q ys) ≡ stream events StreamEnding.End → Has-read p xs events
+        → before i (later q ys) ≡ stream events (Ok tt) → Has-read p xs events
     from_item (token ev) q ys h less f w =
         let evs = (later q ys).events in
         let a : ev ∷ evs ≡ events = ap (λ (s : Stream). s.events) w in
-        let b : (later q ys).ending ≡ StreamEnding.End = ap (λ (s : Stream). s.ending) w in
+        let b : (later q ys).ending ≡ (Ok tt) = ap (λ (s : Stream). s.ending) w in
         let k : Has-read q ys evs = on q ys evs less (λ i. stream evs (b i)) in
         record { lists = subst (λ vs. Lists xs vs) a (token_list ev xs ys evs h k.lists); ends = (let l : q + length ys ≤ max q limit = k.ends in omega arith) }
     from_item passed_over q ys h less f w =
@@ -288,21 +286,21 @@ module _ (decides : (bs : List ℕ) → Decides (utf8 bs) (Utf8 bs)) (notation :
         let m : length xs ≡ 0 = ap length h in
         record { lists = none_left xs events h a; ends = omega arith }
 
-    from_result : (r : Result (Done Item) Error) → WhereOk (AsItem xs) r → WhereOk (Less (length xs)) r → Goes p (length xs) r → item_then r later ≡ stream events StreamEnding.End → Has-read p xs events
+    from_result : (r : Result (Done Item) Error) → WhereOk (AsItem xs) r → WhereOk (Less (length xs)) r → Goes p (length xs) r → item_then r later ≡ stream events (Ok tt) → Has-read p xs events
     from_result (Ok d) h less g w = from_item d.value d.position d.left h less g w
     from_result (Err f) h less g w =
-        let a : StreamEnding.Refused f ≡ StreamEnding.End = ap (λ (s : Stream). s.ending) w in
+        let a : Err f ≡ (Ok tt) = ap (λ (s : Stream). s.ending) w in
         let i : ◌≡◌ {A = ℕ} 0 1 = cc in
         let never : ⊥ = omega arith in
         absurd never
 
-  read_within : (n p : ℕ) (xs : List ℕ) (events : List Ev) → length xs < n → reading p xs End ≡ stream events StreamEnding.End → Has-read p xs events
+  read_within : (n p : ℕ) (xs : List ℕ) (events : List Ev) → length xs < n → reading p xs at_end ≡ stream events (Ok tt) → Has-read p xs events
   read_within zero p xs events l w = let never : ⊥ = omega arith in absurd never
   read_within (suc n) p xs events l w =
-      from_result p xs events (λ q ys. reading q ys End) (λ q. reading_on q [] End) (λ q ys evs k v. read_within n q ys evs (omega arith) v)
-      (item p xs End) (item_sound p xs End) (less_from p xs End) (adv_item p xs End) (sym (reading_on p xs End) ∙ w)
+      from_result p xs events (λ q ys. reading q ys at_end) (λ q. reading_on q [] at_end) (λ q ys evs k v. read_within n q ys evs (omega arith) v)
+      (item p xs at_end) (item_sound p xs at_end) (less_from p xs at_end) (adv_item p xs at_end) (sym (reading_on p xs at_end) ∙ w)
 
-  pub read_lists : (p : ℕ) (xs : List ℕ) (events : List Ev) → reading p xs End ≡ stream events StreamEnding.End → Has-read p xs events
+  pub read_lists : (p : ℕ) (xs : List ℕ) (events : List Ev) → reading p xs at_end ≡ stream events (Ok tt) → Has-read p xs events
   read_lists p xs events w = read_within (suc (length xs)) p xs events (omega arith) w
 
   -- the events of any reading
@@ -322,8 +320,8 @@ module _ (decides : (bs : List ℕ) → Decides (utf8 bs) (Utf8 bs)) (notation :
     starts_result (Err f) h less = Items.last tt
 
   no_events : (e : Ending) (p : ℕ) → (reading p [] e).events ≡ []
-  no_events End p = ap (λ (s : Stream). s.events) (reading_on p [] End)
-  no_events (Fault code) p = ap (λ (s : Stream). s.events) (reading_on p [] (Fault code))
+  no_events (Ok u) p = ap (λ (s : Stream). s.events) (reading_on p [] (Ok u))
+  no_events (Err f) p = ap (λ (s : Stream). s.events) (reading_on p [] (Err f))
 
   starts_within : (n p : ℕ) (xs : List ℕ) (e : Ending) → length xs < n → StartsWith xs (reading p xs e).events
   starts_within zero p xs e l = let never : ⊥ = omega arith in absurd never

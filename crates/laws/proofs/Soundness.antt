@@ -7,8 +7,7 @@ use Rattle.text.specs.Nextstep.{nextstep}
 use Rattle.text.specs.Utf16.{surrogate, decode}
 use Rattle.text.specs.Utf8.{encode}
 use Rattle.source.specs.Asking.{answer, first}
-use Rattle.source.specs.declared.sources.Ending.{Ending}
-use Rattle.source.specs.declared.sources.Ending.TheVariants.{End, Fault}
+use Rattle.source.specs.Endings.{Ending}
 use Rattle.stream.specs.declared.errors.Error.{Error}
 use Rattle.stream.specs.declared.errors.Error.TheVariants.{TextTooLong, IncompleteComment, InvalidOctalString, InvalidUtf16String, InvalidUtf8AsciiStream}
 use Rattle.reader.specs.Comments.{line_comment_lem, closes, state_after, in_comment}
@@ -55,8 +54,8 @@ byte_stepped p x xs e (Ok (Some y)) w = ap (λ z. z ∷ xs) (sym (some_same y x 
 byte_stepped p x xs e (Err f) w = tt
 
 byte_sound : (p : ℕ) (xs : List ℕ) (e : Ending) → WhereOk (λ d. xs ≡ d.value ∷ d.left) (quoted_byte p xs e)
-byte_sound p [] End = tt
-byte_sound p [] (Fault code) = tt
+byte_sound p [] (Ok u) = tt
+byte_sound p [] (Err f) = tt
 byte_sound p (x ∷ xs) e = byte_stepped p x xs e (step_gives p (x ∷ xs) e) refl
 
 byte_then : {B : Type 0} (p : ℕ) (xs : List ℕ) (e : Ending) (next : ℕ → Run B) (P : Done B → Type 0)

@@ -1,11 +1,9 @@
 -- The laws of the reading, from what its runs take and what the format says.
-use Rattle.std.proofs.Common.{◌≡◌, ℕ, ◌≤◌, List, ◌∷◌, ◌++◌, length, Decides, sym, ap, ◌∙◌, zero-add, arith}
+use Rattle.std.proofs.Common.{◌≡◌, ℕ, ◌≤◌, List, ◌∷◌, ◌++◌, length, Decides, sym, ap, ◌∙◌, zero-add, arith, Ok}
 use Rattle.text.specs.Notation.{Notation}
 use Rattle.text.specs.Utf8.{Utf8, utf8}
-use Rattle.source.specs.declared.sources.Ending.{Ending}
-use Rattle.source.specs.declared.sources.Ending.TheVariants.{End}
+use Rattle.source.specs.Endings.{Ending, at_end}
 use Rattle.stream.specs.Streams.{Ev, Stream, stream}
-use Rattle.stream.specs.declared.sources.Ending.{Ending as StreamEnding}
 use Rattle.laws.specs.Format.{Lists}
 use Rattle.laws.specs.Laws.{ReadingIsTheFormat, followed, TokenByToken}
 use Rattle.reader.specs.Readings.{reading}
@@ -14,10 +12,10 @@ use Rattle.laws.proofs.Read.{Has-read, read_lists, read_starts}
 use Rattle.laws.proofs.Sets.{separator_ends}
 
 module _ (decides : (bs : List ℕ) → Decides (utf8 bs) (Utf8 bs)) (notation : Notation) where
-  pub reads : (bytes : List ℕ) (events : List Ev) → Lists bytes events → length bytes ≤ 16777215 → reading 0 bytes End ≡ stream events StreamEnding.End
+  pub reads : (bytes : List ℕ) (events : List Ev) → Lists bytes events → length bytes ≤ 16777215 → reading 0 bytes at_end ≡ stream events (Ok tt)
   reads bytes events h l = lists_on decides notation bytes events h 0 (omega arith)
 
-  within : (bytes : List ℕ) (events : List Ev) → reading 0 bytes End ≡ stream events StreamEnding.End → Lists bytes events × (length bytes ≤ 16777215)
+  within : (bytes : List ℕ) (events : List Ev) → reading 0 bytes at_end ≡ stream events (Ok tt) → Lists bytes events × (length bytes ≤ 16777215)
   within bytes events w =
       let h : Has-read decides notation 0 bytes events = read_lists decides notation 0 bytes events w in
       let l = h.ends in
@@ -32,7 +30,7 @@ module _ (decides : (bs : List ℕ) → Decides (utf8 bs) (Utf8 bs)) (notation :
         starts = read_starts decides notation;
       }
 
-  lines : (bytes : List ℕ) (events : List Ev) → reading 0 bytes End ≡ stream events StreamEnding.End → (more : List ℕ) (ending : Ending)
+  lines : (bytes : List ℕ) (events : List Ev) → reading 0 bytes at_end ≡ stream events (Ok tt) → (more : List ℕ) (ending : Ending)
       → reading 0 (bytes ++ 10 ∷ more) ending ≡ followed events (reading (length bytes) (10 ∷ more) ending)
   lines bytes events w more ending =
       let h = within bytes events w in
