@@ -1,6 +1,8 @@
 -- Arrays whose cells are all free.
-use Rattle.std.proofs.Common.{◌≡◌, ℕ, zero, suc, List, [], ◌∷◌, map, length, get_or, replicate, None, sym, refl, ap, ◌∙◌, arith}
-use lib.ListN.{length-map}
+use Rattle.std.proofs.Common.{◌≡◌, ℕ, List, map, length, get_or, replicate, None, sym, refl, ap, ◌∙◌, arith}
+use Rattle.std.proofs.Math.ListN.{get_or-map}
+use Rattle.std.proofs.lemmas.Grind.{common_steps}
+use Rattle.std.proofs.lemmas.List.{length-map}
 use Rattle.cells.specs.declared.frees.FreeList.{FreeList}
 use Rattle.cells.specs.Chains.{down}
 use Rattle.cells.specs.Frees.{Free}
@@ -10,21 +12,20 @@ use Rattle.texts.specs.Texts.{links as text_links}
 use Rattle.tree.specs.declared.nodes.Node.{Node}
 use Rattle.tree.specs.declared.nodes.Content.TheVariants.{Free as Unused}
 use Rattle.tree.specs.Trees.{nil, at, links, blank}
-use Rattle.tree.specs.Links.{unlinked}
+use Rattle.tree.specs.Links.{ending}
 use Rattle.tree.specs.Models.{Model}
 
-pub unlinked_at : (ns : List Node) (i : ℕ) → get_or (map unlinked ns) i blank ≡ unlinked (at ns i)
-unlinked_at [] i = refl
-unlinked_at (x ∷ ns) zero = refl
-unlinked_at (x ∷ ns) (suc i) = unlinked_at ns i
+-- all of a node but its link
+abbrev pub unlinked : Node → Node
+unlinked x = ending x None
 
-getD_same : {X : Type 0} (n : ℕ) (x : X) (k : ℕ) → get_or (replicate n x) k x ≡ x
-getD_same zero x k = refl
-getD_same (suc n) x zero = refl
-getD_same (suc n) x (suc k) = getD_same n x k
+pub unlinked_at : (ns : List Node) (i : ℕ) → get_or (map unlinked ns) i blank ≡ unlinked (at ns i)
+unlinked_at ns i = get_or-map unlinked ns i blank
 
 pub blank_at : (n i : ℕ) → (at (replicate n blank) i).content ≡ Unused
-blank_at n i = ap (λ (x : Node). x.content) (getD_same n blank i)
+blank_at n i =
+    let same : at (replicate n blank) i ≡ blank = grind (arith, common_steps) in
+    ap (λ (x : Node). x.content) same
 
 pub model_new : (was ns : List Node) (nl : FreeList) (were cs : List TextCell) (tl : FreeList) → length was ≡ 512 → length were ≡ 1024 → ((i : ℕ) → (at was i).content ≡ Unused)
     → Free (links ns) nl (down (length was)) → map unlinked ns ≡ map unlinked was → Free (text_links cs) tl (down (length were)) → map (λ (c : TextCell). c.bytes) cs ≡ map (λ (c : TextCell). c.bytes) were

@@ -2,7 +2,7 @@
 use Rattle.std.proofs.Common.{ℕ, List, [], ◌∷◌, ◌++◌}
 use Rattle.stream.specs.Streams.{Ev, Fit, EachFit}
 use Rattle.tree.specs.declared.nodes.Content.{Content}
-use Rattle.tree.specs.declared.nodes.Content.TheVariants.{Free, Array, Dictionary, Pair, Boolean, Data, Integer, Real, String, Uid}
+use Rattle.tree.specs.declared.nodes.Content.TheVariants.{Array, Dictionary, Pair, Data, String}
 use Rattle.tree.specs.Trees.{nil, node, count_of}
 use Rattle.tree.specs.Walks.{opening, closing, spelled}
 use Rattle.tree.specs.Forms.{TextFits, holds_pairs, SpelledFit}
@@ -12,28 +12,15 @@ each_append [] fs a b = b
 each_append (e ∷ es) fs a b = (a.0, each_append es fs a.1 b)
 
 opening_fits : (c : Content) (k : ℕ) (bs : List ℕ) → TextFits c bs → Fit (opening c k bs)
-opening_fits Free k bs t = tt
-opening_fits Array k bs t = tt
-opening_fits Dictionary k bs t = tt
 opening_fits Pair k bs t = t
-opening_fits (Boolean b) k bs t = tt
 opening_fits Data k bs t = t
-opening_fits (Integer i) k bs t = tt
-opening_fits (Real x) k bs t = tt
 opening_fits String k bs t = t
-opening_fits (Uid u) k bs t = tt
+opening_fits _ k bs t = tt
 
 closing_fits : (c : Content) → EachFit (closing c)
-closing_fits Free = tt
 closing_fits Array = (tt, tt)
 closing_fits Dictionary = (tt, tt)
-closing_fits Pair = tt
-closing_fits (Boolean b) = tt
-closing_fits Data = tt
-closing_fits (Integer i) = tt
-closing_fits (Real x) = tt
-closing_fits String = tt
-closing_fits (Uid u) = tt
+closing_fits _ = tt
 
 pub spelled_fit : SpelledFit
 spelled_fit pairs nil f = tt

@@ -1,7 +1,8 @@
 -- A walk over trees in cells says how they are spelled.
-use Rattle.std.proofs.Common.{◌≡◌, ℕ, zero, suc, ◌+◌, ◌-◌, ◌*◌, ◌/◌, ◌<◌, ◌≤◌, min, Bool, true, false, cond, eqb, List, [], ◌∷◌, ◌++◌, length, Some, None, Option, sym, refl, ap, ◌∙◌, subst, ap₂, inl, inr, append_assoc, append-nil, arith, length-append, eq-eqb, eqb-true}
+use Rattle.std.proofs.Common.{◌≡◌, ℕ, zero, suc, ◌+◌, ◌-◌, ◌*◌, ◌/◌, ◌≤◌, min, List, [], ◌∷◌, ◌++◌, length, Some, None, Option, sym, refl, ap, ◌∙◌, subst, inl, inr, append_assoc, append-nil, arith, length-append}
+use Rattle.std.proofs.lemmas.Bool.Decides.{nat_tests}
 use Rattle.cells.specs.Chains.{Chain, occ, Once, first}
-use Rattle.cells.proofs.Occs.{occ_here, occ_append, occ_cases, occ_split}
+use Rattle.cells.proofs.Occs.{occ_append, occ_cases}
 use Rattle.cells.proofs.Tallies.{most}
 use Rattle.stream.specs.Streams.{Ev}
 use Rattle.texts.specs.declared.cell.TextCell.{TextCell}
@@ -12,19 +13,21 @@ use Rattle.tree.specs.declared.arrays.Arrays.{Arrays}
 use Rattle.tree.specs.declared.cursor.Cursor.{Cursor}
 use Rattle.tree.specs.declared.cursor.Cursor.TheVariants.{Over, Enter, Leave}
 use Rattle.tree.specs.declared.nodes.Node.{Node}
-use Rattle.tree.specs.Trees.{Trees, Label, nil, node, nodes_of, first_of, count_of, join, at, shown, Row, Roots}
-use Rattle.tree.specs.Models.{Represents}
+use Rattle.tree.specs.Trees.{Trees, Label, Lies, nil, node, nodes_of, first_of, count_of, at, shown, Row}
+use Rattle.tree.specs.Models.{EachTrees}
 use Rattle.tree.specs.Ups.{Under}
+use Rattle.tree.specs.Trees.{below}
 use Rattle.tree.specs.Walks.{opening, closing, spelled, subtree, gathered, said, within, along, past, run}
-use Rattle.tree.proofs.RowFacts.{row_below, join_nil}
-use Rattle.tree.proofs.Adding.{model_apart}
+use Rattle.tree.proofs.RowFacts.{Stood, roots_stood, below_stood, nodes_in}
+use Rattle.tree.proofs.Puts.{place, below_once, below_strict}
+use Rattle.tree.proofs.Adding.{one_tree}
 
 -- The bytes gathered along a chain are its text.
 gathered_is : (f : ℕ) (cs : List TextCell) (head : Option ℕ) (is : List ℕ) (n : ℕ) → Spans cs head is n → length is ≤ f → gathered f cs head n ≡ text_of cs is n
 unfolding gathered
 gathered_is zero cs head [] n s h = sym (text_nil cs n)
 gathered_is (suc f) cs head [] n s h = ap (λ (k : Option ℕ). gathered (suc f) cs k n) s.chain ∙ sym (text_nil cs n)
-gathered_is zero cs head (i ∷ is) n s h = let never : ⊥ = omega arith in absurd never
+gathered_is zero cs head (i ∷ is) n s h = absurd (omega arith)
 gathered_is (suc f) cs head (i ∷ is) n s h =
     let enough : suc (length is) ≡ (n + 23) / 24 = s.enough in
     let fewer : length is ≡ (n - 24 + 23) / 24 = omega arith in
@@ -78,15 +81,8 @@ module _ (ns : List Node) (cs : List TextCell) (top : ℕ) where
   along_up None u = refl
   along_up (Some j) u = refl
 
-  other : (n : ℕ) (is : List ℕ) → occ top (n ∷ is) ≡ 0 → eqb n top ≡ false
-  other n is z = go (eqb n top) refl
-    where
-      go : (b : Bool) → eqb n top ≡ b → eqb n top ≡ false
-      go false e = e
-      go true e = let no : ⊥ = omega (arith, occ_here n is, ap (λ k. occ k (n ∷ is)) (eqb-true n top e), z) in absurd no
-
   past_other : (n u : ℕ) (is : List ℕ) → occ top (n ∷ is) ≡ 0 → (at ns n).up ≡ Some u → past (at ns n) top n ≡ within (at ns n).next u
-  past_other n u is z up = ap (λ b. cond b Over (along (at ns n).next (at ns n).up)) (other n is z) ∙ ap (along (at ns n).next) up ∙ along_up (at ns n).next u
+  past_other n u is z up = grind (arith, nat_tests, up, along_up (at ns n).next u)
 
   row_says : (head : Option ℕ) (u : ℕ) (ts : Trees) (f : ℕ) → Row ns cs head ts None → Under (Some u) ts → occ top (nodes_of ts) ≡ 0 → Says (steps ts f) (within head u) (spelled ts) f (Leave u)
   row_says head u nil f r ups z = record { runs = ap (λ h. run f ns cs top (within h u)) r }
@@ -105,99 +101,40 @@ module _ (ns : List Node) (cs : List TextCell) (top : ℕ) where
       subst (λ h. Says (suc G) (within h u) (spelled (node n l ks ts)) f (Leave u)) (sym r.0)
       (says_then (suc G) G f (Enter n) (within (first_of ks) n) (Leave u) (e ∷ []) (spelled ks ++ (es ++ spelled ts)) enter below)
 
--- A node with all that lies below it.
-record Found (ns : List Node) (cs : List TextCell) (i : ℕ) (t : Trees) : Type 0 where
-  l : Label
-  ks : Trees
-  t_is : t ≡ node i l ks nil
-  lt : i < length ns
-  is : at ns i ≡ shown (at ns i).next l ks
-  text : Holds cs (first l.cells) l.cells l.bytes
-  row : Row ns cs (first_of ks) ks None
-  up : Under (Some i) ks
-  once : Once (i ∷ nodes_of ks)
-
-none_there : (i : ℕ) (ts : Trees) → occ i (nodes_of ts) ≡ 0 → subtree i ts ≡ nil
-none_there i nil z = refl
-none_there i (node n l ks ts) z =
-    (elim (eqb i n) as (λ b. cond b 1 0 + occ i (nodes_of ks ++ nodes_of ts) ≡ 0 → cond b (node n l ks nil) (join (subtree i ks) (subtree i ts)) ≡ nil) [
-      | true ↦ λ z. (let no : ⊥ = omega (arith, z) in absurd no)
-      | false ↦ λ z. ap₂ join (none_there i ks (omega (arith, z, occ_append i (nodes_of ks) (nodes_of ts)))) (none_there i ts (omega (arith, z, occ_append i (nodes_of ks) (nodes_of ts))))
-    ]) z
-
+-- The walk of a node that stands there.
 module _ (ns : List Node) (cs : List TextCell) (i : ℕ) where
-  at_node : (n : ℕ) (l : Label) (ks ts : Trees) → n < length ns → at ns n ≡ shown (at ns n).next l ks → Holds cs (first l.cells) l.cells l.bytes → Row ns cs (first_of ks) ks None → Under (Some n) ks → Once (nodes_of (node n l ks ts)) → i ≡ n → Found ns cs i (node n l ks nil)
-  at_node n l ks ts lt is text row up once e = subst (λ (j : ℕ). Found ns cs j (node n l ks nil)) (sym e) record {
-    l = l;
-    ks = ks;
-    t_is = refl;
-    lt = lt;
-    is = is;
-    text = text;
-    row = row;
-    up = up;
-    once = λ j. omega (arith, once j, occ_append j (nodes_of ks) (nodes_of ts));
-  }
-
-  left_of : (ks ts : Trees) → occ i (nodes_of ts) ≡ 0 → Found ns cs i (subtree i ks) → Found ns cs i (join (subtree i ks) (subtree i ts))
-  left_of ks ts z f = subst (Found ns cs i) (sym (ap (join (subtree i ks)) (none_there i ts z) ∙ join_nil (subtree i ks))) f
-
-  right_of : (ks ts : Trees) → occ i (nodes_of ks) ≡ 0 → Found ns cs i (subtree i ts) → Found ns cs i (join (subtree i ks) (subtree i ts))
-  right_of ks ts z f = subst (Found ns cs i) (sym (ap (λ t. join t (subtree i ts)) (none_there i ks z))) f
-
-  row_found : (u head : Option ℕ) (ts : Trees) (end : Option ℕ) → Row ns cs head ts end → Under u ts → Once (nodes_of ts) → 0 < occ i (nodes_of ts) → Found ns cs i (subtree i ts)
-  row_found u head nil end r up once p = let no : ⊥ = omega arith in absurd no
-  row_found u head (node n l ks ts) end r up once p =
-      (elim (eqb i n) as (λ b. eqb i n ≡ b → 0 < cond b 1 0 + occ i (nodes_of ks ++ nodes_of ts) → Found ns cs i (cond b (node n l ks nil) (join (subtree i ks) (subtree i ts)))) [
-        | true ↦ λ e p. at_node n l ks ts r.1 r.2 r.3 r.4 up.1 once (eqb-true i n e)
-        | false ↦ λ e p. elim (occ_split i (nodes_of ks) (nodes_of ts) (omega (arith, p))) [
-          | inl a ↦ left_of ks ts (omega (arith, a, once i, occ_append i (nodes_of ks) (nodes_of ts))) (row_found (Some n) (first_of ks) ks None r.4 up.1 (λ j. omega (arith, once j, occ_append j (nodes_of ks) (nodes_of ts))) a)
-          | inr b ↦ right_of ks ts (omega (arith, b, once i, occ_append i (nodes_of ks) (nodes_of ts))) (row_found u (at ns n).next ts end r.5 up.2 (λ j. omega (arith, once j, occ_append j (nodes_of ks) (nodes_of ts))) b)
-        ]
-      ]) refl p
-
-  roots_found : (u : Option ℕ) (ts : Trees) → Roots ns cs ts → Under u ts → Once (nodes_of ts) → 0 < occ i (nodes_of ts) → Found ns cs i (subtree i ts)
-  roots_found u nil r up once p = let no : ⊥ = omega arith in absurd no
-  roots_found u (node n l ks ts) r up once p =
-      (elim (eqb i n) as (λ b. eqb i n ≡ b → 0 < cond b 1 0 + occ i (nodes_of ks ++ nodes_of ts) → Found ns cs i (cond b (node n l ks nil) (join (subtree i ks) (subtree i ts)))) [
-        | true ↦ λ e p. at_node n l ks ts r.0.1 r.0.2 r.0.3 r.0.4 up.1 once (eqb-true i n e)
-        | false ↦ λ e p. elim (occ_split i (nodes_of ks) (nodes_of ts) (omega (arith, p))) [
-          | inl a ↦ left_of ks ts (omega (arith, a, once i, occ_append i (nodes_of ks) (nodes_of ts))) (row_found (Some n) (first_of ks) ks None r.0.4 up.1 (λ j. omega (arith, once j, occ_append j (nodes_of ks) (nodes_of ts))) a)
-          | inr b ↦ right_of ks ts (omega (arith, b, once i, occ_append i (nodes_of ks) (nodes_of ts))) (roots_found u ts r.1 up.2 (λ j. omega (arith, once j, occ_append j (nodes_of ks) (nodes_of ts))) b)
-        ]
-      ]) refl p
-
   -- After the node walked, the walk is over.
   past_top : past (at ns i) i i ≡ Over
-  past_top = ap (λ b. cond b Over (along (at ns i).next (at ns i).up)) (eq-eqb i i refl)
+  past_top = grind (arith, nat_tests)
 
   over : (f : ℕ) → run f ns cs i Over ≡ []
   over zero = refl
   over (suc f) = refl
 
-  found_runs : (t : Trees) (r : ℕ) → 2 * length ns ≤ r → Found ns cs i t → run r ns cs i (Enter i) ≡ spelled t
-  found_runs t r big x =
-      let ks = x.ks in
+  place_runs : (ts : Trees) (r : ℕ) → 2 * length ns ≤ r → Stood ns cs ts → Under None ts → Once (nodes_of ts) → occ i (nodes_of ts) ≡ 1 → run r ns cs i (Enter i) ≡ spelled (subtree i ts)
+  place_runs ts r big s up once p =
+      let x = place ns cs i ts s p in
+      let ks = below i ts in
       let l = x.l in
+      let is = x.stands.is in
       let t₁ = node i l ks nil in
       let few : length (nodes_of t₁) ≤ length ns =
       rw (append-nil (nodes_of ks)) (most (length ns) (i ∷ nodes_of ks)
-      (λ j p. elim (occ_cases j i (nodes_of ks) p) [ inl e ↦ omega (arith, e, x.lt) | inr q ↦ row_below ns cs (first_of ks) ks None x.row j q ])
-      x.once) in
+      (λ j q. elim (occ_cases j i (nodes_of ks) q) [ inl e ↦ omega (arith, e, x.stands.lt) | inr q ↦ nodes_in ns cs ks (below_stood ns cs ks x.stands.row) j q ])
+      (below_once i ts p once)) in
       let room = steps_room t₁ r (omega (arith, few, big)) in
       let f = room.0 in
       let G = steps ks (suc f) in
       let e = opening l.content (count_of ks) l.bytes in
       let es = closing l.content in
-      let enter = says_enter ns cs i G i e (within (first_of ks) i) (said_is cs (at ns i) (at ns i).next l ks x.is x.text) (ap (λ (y : Node). within y.first i) x.is) in
-      let down = row_says ns cs i (first_of ks) i ks (suc f) x.row x.up (omega (arith, x.once i, occ_here i (nodes_of ks))) in
-      let out = says_leave ns cs i f i es Over (ap (λ (y : Node). closing y.content) x.is) past_top in
-      let below = says_then ns cs i G (suc f) f (within (first_of ks) i) (Leave i) Over (spelled ks) es down out in
-      let all = says_then ns cs i (suc G) G f (Enter i) (within (first_of ks) i) Over (e ∷ []) (spelled ks ++ es) enter below in
+      let enter = says_enter ns cs i G i e (within (first_of ks) i) (said_is cs (at ns i) (at ns i).next l ks is x.stands.text) (ap (λ (y : Node). within y.first i) is) in
+      let down = row_says ns cs i (first_of ks) i ks (suc f) x.stands.row (x.under None up) (below_strict i ts p) in
+      let out = says_leave ns cs i f i es Over (ap (λ (y : Node). closing y.content) is) past_top in
+      let back = says_then ns cs i G (suc f) f (within (first_of ks) i) (Leave i) Over (spelled ks) es down out in
+      let all = says_then ns cs i (suc G) G f (Enter i) (within (first_of ks) i) Over (e ∷ []) (spelled ks ++ es) enter back in
       ap (λ (k : ℕ). run k ns cs i (Enter i)) (sym room.1) ∙ all.runs ∙ ap (λ xs. (e ∷ (spelled ks ++ es)) ++ xs) (over f) ∙ append-nil (e ∷ (spelled ks ++ es))
-      ∙ ap (λ xs. e ∷ (spelled ks ++ xs)) (sym (append-nil es)) ∙ sym (ap spelled x.t_is)
+      ∙ ap (λ xs. e ∷ (spelled ks ++ xs)) (sym (append-nil es)) ∙ sym (ap spelled x.is)
 
-pub walk_says : (a : Arrays) (n r : ℕ) → r ≡ 1024 → (ts : Trees) → Represents a ts → Under None ts → 0 < occ n (nodes_of ts) → run r a.nodes a.texts n (Enter n) ≡ spelled (subtree n ts)
+pub walk_says : (a : Arrays) (n r : ℕ) → r ≡ 1024 → EachTrees a (λ ts. Under None ts → Lies n ts → run r a.nodes a.texts n (Enter n) ≡ spelled (subtree n ts))
 walk_says a n r e ts rep u p =
-    let apart = model_apart a.nodes a.free_nodes a.texts a.free_texts None nil ts rep.0 rep.1 rep.2 in
-    found_runs a.nodes a.texts n (subtree n ts) r (omega (arith, rep.2.long)) (roots_found a.nodes a.texts n None ts rep.2.roots u (λ i. omega (arith, apart.one i)) p)
+    place_runs a.nodes a.texts n ts r (omega (arith, rep.2.long)) (roots_stood a.nodes a.texts ts rep.2.roots) u (λ i. omega (arith, one_tree a ts rep i)) (omega (arith, p, one_tree a ts rep n))

@@ -3,23 +3,17 @@ use Rattle.std.specs.Prelude.{◌≡◌, ℕ, ◌≤◌, Bool, true, false, List
 use Rattle.text.specs.Utf8.{utf8}
 use Rattle.stream.specs.Streams.{EachFit}
 use Rattle.tree.specs.declared.nodes.Content.{Content}
-use Rattle.tree.specs.declared.nodes.Content.TheVariants.{Free, Array, Dictionary, Pair, Boolean, Data, Integer, Real, String, Uid}
+use Rattle.tree.specs.declared.nodes.Content.TheVariants.{Free, Array, Dictionary, Pair, Data, String}
 use Rattle.tree.specs.Keys.{under}
 use Rattle.tree.specs.Trees.{Trees, nil, node, count_of}
 use Rattle.tree.specs.Walks.{spelled}
 
 -- Strings and keys are UTF-8 (RFC 3629), they and Data have at most 1,024 bytes, and nothing else has a text.
 abbrev pub TextFits : Content → List ℕ → Type 0
-TextFits Free bs = bs ≡ []
-TextFits Array bs = bs ≡ []
-TextFits Dictionary bs = bs ≡ []
 TextFits Pair bs = (length bs ≤ 1024) × (utf8 bs ≡ true)
-TextFits (Boolean b) bs = bs ≡ []
 TextFits Data bs = length bs ≤ 1024
-TextFits (Integer i) bs = bs ≡ []
-TextFits (Real x) bs = bs ≡ []
 TextFits String bs = (length bs ≤ 1024) × (utf8 bs ≡ true)
-TextFits (Uid u) bs = bs ≡ []
+TextFits _ bs = bs ≡ []
 
 -- no key of a row of pairs stands there again
 abbrev pub Distinct : Trees → Type 0
@@ -32,37 +26,16 @@ BelowFits Free ks = ⊥
 BelowFits Array ks = Unit {0}
 BelowFits Dictionary ks = Distinct ks
 BelowFits Pair ks = count_of ks ≡ 1
-BelowFits (Boolean b) ks = ks ≡ nil
-BelowFits Data ks = ks ≡ nil
-BelowFits (Integer i) ks = ks ≡ nil
-BelowFits (Real x) ks = ks ≡ nil
-BelowFits String ks = ks ≡ nil
-BelowFits (Uid u) ks = ks ≡ nil
+BelowFits _ ks = ks ≡ nil
 
 -- whether a node is a pair, and whether pairs stand below it
 abbrev pub is_pair : Content → Bool
-is_pair Free = false
-is_pair Array = false
-is_pair Dictionary = false
 is_pair Pair = true
-is_pair (Boolean b) = false
-is_pair Data = false
-is_pair (Integer i) = false
-is_pair (Real x) = false
-is_pair String = false
-is_pair (Uid u) = false
+is_pair _ = false
 
 abbrev pub holds_pairs : Content → Bool
-holds_pairs Free = false
-holds_pairs Array = false
 holds_pairs Dictionary = true
-holds_pairs Pair = false
-holds_pairs (Boolean b) = false
-holds_pairs Data = false
-holds_pairs (Integer i) = false
-holds_pairs (Real x) = false
-holds_pairs String = false
-holds_pairs (Uid u) = false
+holds_pairs _ = false
 
 -- a row of pairs, or of values, well-formed all the way down
 abbrev pub Formed : Bool → Trees → Type 0

@@ -30,6 +30,17 @@ Holding a todo w ts fs gs = Model a.nodes a.free_nodes a.texts a.free_texts todo
 abbrev pub Represents : Arrays → Trees → Type 0
 Represents a ts = (fs : List ℕ) × (gs : List ℕ) × Holding a None nil ts fs gs
 
+-- they hold some trees, and a row from `todo` is under way
+abbrev pub SomeWork : Arrays → Option ℕ → Type 0
+SomeWork a todo = ∥ ((w ts : Trees) × (fs gs : List ℕ) × Holding a todo w ts fs gs) ∥₁
+
 -- they hold some trees
 abbrev pub Sound : Arrays → Type 0
 Sound a = ∥ ((ts : Trees) × Represents a ts) ∥₁
+
+-- they hold some trees of which P is true, and P is true of whichever trees they hold
+abbrev pub SomeTrees : Arrays → (Trees → Type 0) → Type 0
+SomeTrees a P = ∥ ((ts : Trees) × Represents a ts × P ts) ∥₁
+
+abbrev pub EachTrees : Arrays → (Trees → Type 0) → Type 0
+EachTrees a P = (ts : Trees) → Represents a ts → P ts

@@ -1,11 +1,10 @@
 -- What the moves answer and leave.
 use Rattle.std.specs.Prelude.{◌≡◌, ℕ, ◌<◌, true, ◌⊎◌, List, length, Some, None, Ok, Err, Option, Result}
-use Rattle.cells.specs.Chains.{occ}
 use Rattle.stream.specs.declared.errors.Error.{Error}
 use Rattle.texts.specs.Texts.{cells_for}
 use Rattle.tree.specs.declared.arrays.Arrays.{Arrays}
 use Rattle.tree.specs.declared.nodes.Content.{Content}
-use Rattle.tree.specs.Trees.{Trees, Label, nil, node, nodes_of, rooted, tree, without, below, put, join, label_up, roots_up}
+use Rattle.tree.specs.Trees.{Trees, Label, Lies, nil, node, rooted, tree, without, below, put, join, label_up, roots_up}
 use Rattle.tree.specs.Models.{Represents}
 
 -- why a node with a text of n bytes cannot be had
@@ -20,7 +19,7 @@ Added a content up bytes ts a' (Err e) = (a' ≡ a) × Lacking a (length bytes) 
 
 -- `new` is a tree of its own, and `to` a node of another one.
 abbrev pub Separate : ℕ → ℕ → Trees → Type 0
-Separate to new ts = (rooted new ts ≡ true) × (0 < occ to (nodes_of (without new ts)))
+Separate to new ts = (rooted new ts ≡ true) × Lies to (without new ts)
 
 -- the trees when `new` stands last below `to`
 abbrev pub appended : ℕ → ℕ → Trees → Trees

@@ -1,6 +1,6 @@
 -- Labelled trees: which node and which text cells each value, key and pair uses, and what the cells then hold.
 use Rattle.std.specs.Prelude.{◌≡◌, ℕ, ◌+◌, ◌<◌, Bool, false, cond, ◌||◌, List, [], ◌∷◌, ◌++◌, map, length, Some, None, Option, ◌==◌, slice_index_or}
-use Rattle.cells.specs.Chains.{first}
+use Rattle.cells.specs.Chains.{occ, first}
 use Rattle.texts.specs.declared.cell.TextCell.{TextCell}
 use Rattle.texts.specs.Texts.{Holds}
 use Rattle.tree.specs.declared.nodes.Node.{Node}
@@ -27,6 +27,10 @@ nodes_of (node n l ks ts) = n ∷ (nodes_of ks ++ nodes_of ts)
 abbrev pub texts_of : Trees → List ℕ
 texts_of nil = []
 texts_of (node n l ks ts) = l.cells ++ (texts_of ks ++ texts_of ts)
+
+-- the node n lies in the trees, however deep
+abbrev pub Lies : ℕ → Trees → Type 0
+Lies n ts = 0 < occ n (nodes_of ts)
 
 -- the first root of a row, its last one, and how many it has
 abbrev pub first_of : Trees → Option ℕ
@@ -75,7 +79,7 @@ put i us (node n l ks ts) = cond (i == n) (node n l us ts) (node n l (put i us k
 
 -- a label with another node above, and a row whose roots have it
 abbrev pub label_up : Option ℕ → Label → Label
-label_up u l = record { up = u; content = l.content; cells = l.cells; bytes = l.bytes }
+label_up u l = record l { up = u }
 
 abbrev pub roots_up : Option ℕ → Trees → Trees
 roots_up u nil = nil

@@ -26,16 +26,9 @@ opening (Uid u) c bs = Ev.Uid u.value
 
 -- what is said on leaving it
 abbrev pub closing : Content → List Ev
-closing Free = []
 closing Array = Ev.EndCollection ∷ []
 closing Dictionary = Ev.EndCollection ∷ []
-closing Pair = []
-closing (Boolean b) = []
-closing Data = []
-closing (Integer i) = []
-closing (Real x) = []
-closing String = []
-closing (Uid u) = []
+closing _ = []
 
 -- the events of a row of trees
 abbrev pub spelled : Trees → List Ev

@@ -20,6 +20,7 @@ pub enum Content {
     Uid(Uid),
 }
 
+// Links are indices: the project's trees take no heap, and stand in one array of a fixed size.
 // `next` is the next node below the same one, or in a free node the next free one; `up` is the node above.
 // `first`, `last` and `count` are of the nodes below it: items of an array, pairs of a dictionary, the value of a pair.
 // `text` is the first cell of its text, and `length` how many bytes that has.
@@ -41,7 +42,7 @@ impl Linked for Node {
 
     ghost linkof = { λ x. x.next };
 
-    ghost loadof = { λ x. record { next = None; up = x.up; first = x.first; last = x.last; count = x.count; text = x.text; length = x.length; content = x.content } };
+    ghost loadof = { λ x. record x { next = None } };
 
     fn link(&self) -> Option<u16> {
         self.next

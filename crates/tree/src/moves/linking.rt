@@ -1,10 +1,9 @@
 // Trees put below a node, and taken off again.
 ghost use Rattle.std.specs.Prelude.{◌≡◌, ℕ, ◌<◌, length, Some};
-ghost use Rattle.cells.specs.Chains.{occ};
-ghost use Rattle.tree.specs.Links.{linked, first_or_lem, linked_below, unlinked_below};
-ghost use Rattle.tree.specs.Trees.{Trees, nodes_of, at as node_at_lem};
-ghost use Rattle.tree.specs.Models.{Represents};
+ghost use Rattle.tree.specs.Links.{linked, linked_below, unlinked_below};
+ghost use Rattle.tree.specs.Models.{Represents, SomeTrees, EachTrees};
 ghost use Rattle.tree.specs.Moves.{Separate, appended, Detached};
+ghost use Rattle.tree.specs.Trees.{Lies, at as node_at_lem};
 
 use crate::arrays::Arrays;
 use crate::nodes::Node;
@@ -14,23 +13,13 @@ pub(crate) fn link_last(nodes: &mut [Node], last: Option<u16>, to: Option<u16>)
     requires { (k : ℕ) → last ≡ Some k → k < length nodes.old }
     ensures { nodes.new ≡ linked nodes.old last to }
 {
-    match last {
-        None => {}
-        Some(k) => nodes[k as usize].next = to,
-    }
-}
-
-// The first node of a row, or where that is empty what comes behind it.
-pub(crate) fn first_or(first: Option<u16>, to: Option<u16>) -> Option<u16>
-    ensures { result ≡ first_or_lem first to }
-{
-    match first {
-        None => to,
-        Some(n) => Some(n),
+    if let Some(k) = last {
+        nodes[k as usize].next = to;
     }
 }
 
 // Puts the node `new` last below `to`.
+#[tactic(auto, using(std::proofs::lemmas::List::get_or_read))]
 fn link_below(nodes: &mut [Node], to: u16, new: u16)
     requires to_within { to < length nodes.old }
     requires new_within { new < length nodes.old }
@@ -40,16 +29,11 @@ fn link_below(nodes: &mut [Node], to: u16, new: u16)
 {
     let above = nodes[to as usize];
     link_last(nodes, above.last, Some(new));
-    let first = first_or(above.first, Some(new));
     nodes[to as usize] = Node {
-        next: above.next,
-        up: above.up,
-        first,
+        first: above.first.or(Some(new)),
         last: Some(new),
         count: above.count + 1,
-        text: above.text,
-        length: above.length,
-        content: above.content,
+        ..above
     };
     nodes[new as usize].up = Some(to);
 }
@@ -60,38 +44,30 @@ fn unlink_below(nodes: &mut [Node], top: u16, n: u16)
     requires within { n < length nodes.old }
     ensures { nodes.new ≡ unlinked_below nodes.old top n }
 {
-    let above = nodes[top as usize];
-    nodes[top as usize] = Node {
-        next: above.next,
-        up: above.up,
-        first: None,
-        last: None,
-        count: 0,
-        text: above.text,
-        length: above.length,
-        content: above.content,
-    };
+    let above = &mut nodes[top as usize];
+    above.first = None;
+    above.last = None;
+    above.count = 0;
     nodes[n as usize].up = None;
 }
 
 impl Arrays {
     // Makes the tree `new` the last one below the node `to`: an item of an array, a pair of a dictionary, or the value of a pair.
+    #[tactic(auto, using(crate::proofs::Appending::append_facts))]
     pub fn append(&mut self, to: u16, new: u16)
-        requires placed { ∥ ((ts : Trees) × Represents self.old ts × Separate to new ts) ∥₁ }
-        ensures appended { (ts : Trees) → Represents self.old ts → Separate to new ts → Represents self.new (appended to new ts) }
+        requires placed { SomeTrees self.old (Separate to new) }
+        ensures appended { EachTrees self.old (λ ts. Separate to new ts → Represents self.new (appended to new ts)) }
     {
         link_below(&mut self.nodes, to, new);
     }
 
     // Takes the value off a pair: it is a tree of its own then.
+    #[tactic(auto, using(crate::proofs::Appending::placed_facts))]
     pub fn detach(&mut self, pair: u16) -> Option<u16>
-        requires placed { ∥ ((ts : Trees) × Represents self.old ts × (0 < occ pair (nodes_of ts))) ∥₁ }
-        ensures detached { (ts : Trees) → Represents self.old ts → 0 < occ pair (nodes_of ts) → Detached self.old pair ts self.new result }
+        requires placed { SomeTrees self.old (Lies pair) }
+        ensures detached { EachTrees self.old (λ ts. Lies pair ts → Detached self.old pair ts self.new result) }
     {
-        let first = self.nodes[pair as usize].first;
-        let Some(value) = first else {
-            return None;
-        };
+        let value = self.nodes[pair as usize].first?;
         unlink_below(&mut self.nodes, pair, value);
         Some(value)
     }

@@ -1,5 +1,5 @@
-use Rattle.tree.proofs.Counting.{free_counts}
+use Rattle.tree.proofs.Counting.{free_nodes, free_texts}
 use Rattle.tree.proofs.arrays.Arrays.free.Goals as goal
 
 pub returns : goal.returns
-returns c = free_counts c.args.self.now
+returns c = record { nodes = free_nodes c.args.self.now; texts = free_texts c.args.self.now }

@@ -1,5 +1,5 @@
 use Rattle.std.proofs.Common.{replicate, None}
-use lib.ListN.{length-replicate}
+use Rattle.std.proofs.lemmas.List.{length-replicate}
 use Rattle.texts.specs.declared.cell.TextCell.{TextCell}
 use Rattle.tree.specs.Trees.{blank}
 use Rattle.tree.proofs.AllFree.{model_new, blank_at}
@@ -12,7 +12,6 @@ pub returns : goal.returns
 returns c = (
   _,
   _,
-  model_new (replicate 512 blank) c.give_all-free_nodes.new.cells c.give_all-free_nodes.result (replicate 1024 zeros) c.give_all-free_texts.new.cells c.give_all-free_texts.result
-      (length-replicate 512 blank) (length-replicate 1024 zeros) (blank_at 512)
-      c.give_all-free_nodes.ensures.free c.give_all-free_nodes.ensures.loads c.give_all-free_texts.ensures.free c.give_all-free_texts.ensures.loads,
+  model_new (replicate 512 blank) _ _ (replicate 1024 zeros) _ _ (length-replicate 512 blank) (length-replicate 1024 zeros) (blank_at 512)
+      c.of_all-free_nodes.ensures.free c.of_all-free_nodes.ensures.loads c.of_all-free_texts.ensures.free c.of_all-free_texts.ensures.loads,
 )
