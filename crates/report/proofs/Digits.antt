@@ -1,20 +1,32 @@
 -- Hexadecimal digits, written and read.
-use Rattle.std.proofs.Common.{◌≡◌, ℕ, ◌+◌, ◌-◌, ◌*◌, ◌/◌, ◌%◌, ◌<◌, ◌≤◌, List, [], ◌∷◌, ◌++◌, length, get_or, take, drop, Some, None, Option, sym, refl, ap, ◌∙◌, append_assoc, arith}
+use Rattle.std.proofs.Common.{◌≡◌, ℕ, ◌+◌, ◌-◌, ◌*◌, ◌/◌, ◌%◌, ◌^◌, ◌<◌, ◌≤◌, false, List, [], ◌∷◌, ◌++◌, length, get_or, take, drop, Some, None, Option, sym, refl, ap, ◌∙◌, append_assoc, arith}
+use Rattle.std.proofs.lemmas.Fmt.{hex_byte}
+use Rattle.std.proofs.lemmas.List.{take_more}
 use Rattle.std.proofs.lemmas.Slice.{between_to_end}
 use Rattle.std.proofs.lemmas.Bool.Decides.{nat_tests}
+use Rattle.std.specs.Fmt.{digits, padded_integral, format_spec}
 use Rattle.std.specs.Option.{option_map}
 use Rattle.text.specs.Digits.{digit_of}
-use Rattle.report.specs.Hex.{hex_digit_lem, hex, byte_of, before, from_hex, ReadsBack}
+use Rattle.report.specs.Hex.{hex_digit, hex, byte_of, before, from_hex, ReadsBack}
 
-digit_back : (n : ℕ) → n < 16 → digit_of 16 (hex_digit_lem n) ≡ Some n
+-- the digits of one byte more
+hex-append : (xs ys : List ℕ) → hex (xs ++ ys) ≡ hex xs ++ hex ys
+hex-append [] ys = refl
+hex-append (b ∷ bs) ys = ap (λ (zs : List ℕ). hex_digit (b / 16) ∷ hex_digit (b % 16) ∷ zs) (hex-append bs ys)
+
+pub hex-take : (xs : List ℕ) (i : ℕ) → i < length xs → get_or xs i 0 < 256 →
+    hex (take i xs) ++ padded_integral (format_spec 32 0 4 2 (2 ^ 64 - 1)) false [] (digits 16 false (get_or xs i 0)) ≡ hex (take (i + 1) xs)
+hex-take xs i room byte = let more = take_more xs i 0 room in let two = hex_byte false (get_or xs i 0) byte in let split = hex-append (take i xs) (get_or xs i 0 ∷ []) in cc
+
+digit_back : (n : ℕ) → n < 16 → digit_of 16 (hex_digit n) ≡ Some n
 digit_back n h = grind (arith, nat_tests)
 
-byte_back : (b : ℕ) → b < 256 → byte_of (digit_of 16 (hex_digit_lem (b / 16))) (digit_of 16 (hex_digit_lem (b % 16))) ≡ Some b
+byte_back : (b : ℕ) → b < 256 → byte_of (digit_of 16 (hex_digit (b / 16))) (digit_of 16 (hex_digit (b % 16))) ≡ Some b
 byte_back b h =
     let high : b / 16 < 16 = omega arith in
     let low : b % 16 < 16 = omega arith in
     let whole : b / 16 * 16 + b % 16 ≡ b = omega arith in
-    ap (λ (o : Option ℕ). byte_of o (digit_of 16 (hex_digit_lem (b % 16)))) (digit_back (b / 16) high)
+    ap (λ (o : Option ℕ). byte_of o (digit_of 16 (hex_digit (b % 16)))) (digit_back (b / 16) high)
     ∙ (ap (λ (o : Option ℕ). byte_of (Some (b / 16)) o) (digit_back (b % 16) low) ∙ ap (λ (x : ℕ). Some x) whole)
 
 pub reads_back : ReadsBack

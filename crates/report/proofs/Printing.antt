@@ -1,8 +1,7 @@
 -- Printing a stream of events, one after another.
 use Rattle.std.proofs.Common.{◌≡◌, ℕ, ◌≤◌, List, ◌++◌, length, Some, Ok, Option, Result, sym, ap, ◌∙◌, subst, append_assoc}
 use Rattle.stream.specs.declared.errors.Error.{Error}
-use Rattle.stream.specs.declared.events.Event.{Event}
-use Rattle.stream.specs.Events.{event}
+use Rattle.stream.specs.Events.{ScratchEvent, event}
 use Rattle.stream.specs.Nexts.{Next, Gives}
 use Rattle.stream.specs.Streams.{Stream}
 use Rattle.report.specs.Events.{event_text, stream_text}
@@ -12,11 +11,11 @@ pub record Underway (between was : List ℕ) (u₀ : Stream) (out : List ℕ) (u
   pub text : out ++ stream_text between u ≡ was ++ stream_text between u₀
   pub ending : u.ending ≡ u₀.ending
 
-module _ (between was out : List ℕ) (u₀ u v : Stream) (s s' : List ℕ) (r : Result (Option Event) Error) (now : Underway between was u₀ out u) (room : 1024 ≤ length s) (next : Next u s r v s') where
+module _ (between was out : List ℕ) (u₀ u v : Stream) (s s' : List ℕ) (r : Result (Option ScratchEvent) Error) (now : Underway between was u₀ out u) (room : 1024 ≤ length s) (next : Next u s r v s') where
   -- one event more is printed
-  pub on : (e : Event) (more most : List ℕ) → r ≡ Ok (Some e) → more ≡ out ++ event_text (event e s') → most ≡ more ++ between → Underway between was u₀ most v
+  pub on : (e : ScratchEvent) (more most : List ℕ) → r ≡ Ok (Some e) → more ≡ out ++ event_text (event e s') → most ≡ more ++ between → Underway between was u₀ most v
   on e more most is added parted =
-      let g : Gives u s (Ok (Some e)) v s' = subst (λ (x : Result (Option Event) Error). Gives u s x v s') is (next.gives room) in
+      let g : Gives u s (Ok (Some e)) v s' = subst (λ (x : Result (Option ScratchEvent) Error). Gives u s x v s') is (next.gives room) in
       let rest = stream_text between v in
       let text = event_text (event e s') in
       record {

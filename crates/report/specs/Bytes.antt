@@ -1,7 +1,6 @@
 -- What is printed of a byte source.
 use Rattle.std.specs.Prelude.{ℕ, List, [], ◌∷◌, ◌++◌}
-use Rattle.source.specs.Endings.{ending_text}
-use Rattle.source.specs.declared.sources.Ending.{Ending}
+use Rattle.source.specs.Endings.{Ending, ending_text}
 use Rattle.report.specs.Hex.{hex}
 
 -- a line with the bytes in hexadecimal, and a line with the ending

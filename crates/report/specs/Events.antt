@@ -1,11 +1,10 @@
 -- What is printed of an event, and of a stream of events.
-use Rattle.std.specs.Prelude.{ℕ, Bool, true, false, List, [], ◌∷◌, ◌++◌, codes, decimal, to_bits}
+use Rattle.std.specs.Prelude.{ℕ, Bool, true, false, List, [], ◌∷◌, ◌++◌, Ok, Err, Result, ⊤, codes, decimal, to_bits}
 use Rattle.std.specs.Float.{binary64}
 use Rattle.std.specs.Fmt.{signed_decimal}
 use Rattle.stream.specs.Errors.{carried, refusal_text}
 use Rattle.stream.specs.Streams.{Ev, Stream}
-use Rattle.stream.specs.declared.sources.Ending.{Ending}
-use Rattle.stream.specs.declared.sources.Ending.TheVariants.{End, Refused}
+use Rattle.stream.specs.declared.errors.Error.{Error}
 use Rattle.report.specs.Hex.{hex, eight_bytes}
 
 abbrev pub bool_text : Bool → List ℕ
@@ -25,12 +24,12 @@ event_text (Ev.Real x) = codes "Real " ++ hex (eight_bytes (to_bits binary64 x))
 event_text (Ev.String bs) = codes "String " ++ hex bs
 event_text (Ev.Uid u) = codes "Uid " ++ decimal u
 
-abbrev pub ending_text : Ending → List ℕ
-ending_text End = codes "end"
-ending_text (Refused e) = refusal_text e
+abbrev pub ending_text : Result ⊤ Error → List ℕ
+ending_text (Ok _) = codes "end"
+ending_text (Err e) = refusal_text e
 
 -- events and an ending, each with a text behind it: a line feed, or a separator
-abbrev pub events_text : List ℕ → List Ev → Ending → List ℕ
+abbrev pub events_text : List ℕ → List Ev → Result ⊤ Error → List ℕ
 events_text between [] e = ending_text e
 events_text between (ev ∷ evs) e = event_text ev ++ (between ++ events_text between evs e)
 

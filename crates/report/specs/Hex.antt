@@ -3,13 +3,13 @@ use Rattle.std.specs.Prelude.{◌≡◌, ℕ, ◌+◌, ◌*◌, ◌/◌, ◌%◌
 use Rattle.text.specs.Digits.{digit_of}
 
 -- `0` to `9`, and then `a` to `f`
-abbrev pub hex_digit_lem : ℕ → ℕ
-hex_digit_lem n = cond (nat_lt n 10) (48 + n) (87 + n)
+abbrev pub hex_digit : ℕ → ℕ
+hex_digit n = cond (nat_lt n 10) (48 + n) (87 + n)
 
 -- two digits for each byte
 abbrev pub hex : List ℕ → List ℕ
 hex [] = []
-hex (b ∷ bs) = hex_digit_lem (b / 16) ∷ hex_digit_lem (b % 16) ∷ hex bs
+hex (b ∷ bs) = hex_digit (b / 16) ∷ hex_digit (b % 16) ∷ hex bs
 
 -- the eight bytes of a 64-bit number, the highest first
 abbrev pub eight_bytes : ℕ → List ℕ

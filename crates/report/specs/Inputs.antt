@@ -3,8 +3,7 @@ use Rattle.std.specs.Prelude.{ℕ, Bool, true, false, List}
 use Rattle.source.specs.Buffers.{buffer_bytes, buffer_ending}
 use Rattle.source.specs.Decks.{deck_bytes, deck_ending, card_texts, cards_end}
 use Rattle.source.specs.Slices.{slice_bytes, slice_ending}
-use Rattle.source.specs.declared.sources.Ending.{Ending}
-use Rattle.source.specs.declared.sources.Ending.TheVariants.{End}
+use Rattle.source.specs.Endings.{Ending, at_end}
 use Rattle.report.specs.declared.inputs.Buffered.{Buffered}
 use Rattle.report.specs.declared.inputs.Buffered.TheVariants.{Direct, Once, Twice, Thrice}
 use Rattle.report.specs.declared.inputs.FileSource.{FileSource}
@@ -17,7 +16,7 @@ given_bytes false file = file
 
 abbrev pub given_ending : Bool → List ℕ → Ending
 given_ending true file = cards_end file
-given_ending false file = End
+given_ending false file = at_end
 
 abbrev pub file_bytes : FileSource → List ℕ
 file_bytes (Plain s) = slice_bytes s
@@ -39,3 +38,10 @@ behind_ending ending (Direct s) = ending s
 behind_ending ending (Once b) = buffer_ending ending b
 behind_ending ending (Twice b) = buffer_ending (buffer_ending ending) b
 behind_ending ending (Thrice b) = buffer_ending (buffer_ending (buffer_ending ending)) b
+
+-- how many buffers lie between
+abbrev pub between : {S : Type 0} → Buffered S → ℕ
+between (Direct s) = 0
+between (Once b) = 1
+between (Twice b) = 2
+between (Thrice b) = 3

@@ -1,24 +1,46 @@
 // Many short lists in one file, a line each in hexadecimal, and each answered by a line.
-ghost use Rattle.std.specs.Prelude.{◌≡◌, ◌≤◌, length, IfOk, vec_items};
+ghost use Rattle.std.specs.Prelude.{◌≡◌, ℕ, Some, Ok, Err, IfOk, IsErrOf, vec_items};
 ghost use Rattle.std.specs.Option.{option_map};
 ghost use Rattle.report.specs.Hex.{from_word};
-ghost use Rattle.report.specs.Batches.{answer, batch, line_length_lem, lines, outcome};
+ghost use Rattle.report.specs.declared.batches.BatchError.TheVariants.{Line, Memory};
+ghost use Rattle.report.specs.Batches.{answer, batch, error_text, lines};
 
 use crate::hex::parse_bytes;
-use crate::readings::events_of;
+use crate::inputs::ListFile;
 use std::alloc::{AllocError, Global};
+use std::error::Error;
+use std::fmt;
 
-// How many bytes stand before the first line feed, or before the end.
-fn line_length(text: &[u8]) -> usize
-    ensures value { result ≡ line_length_lem text.now }
-    ensures bound { result ≤ length text.now }
-{
-    for (i, b) in text.iter().enumerate() {
-        if *b == b'\n' {
-            return i;
+// Why a file of lists is not answered.
+#[derive(Clone, Copy, Debug)]
+pub enum BatchError {
+    // A line writes no list; the first line is number 1.
+    Line(usize),
+    Memory(AllocError),
+}
+
+impl fmt::Display for BatchError {
+    ghost output = { λ e. Some (error_text e) };
+
+    fn fmt<W: fmt::Write>(&self, f: &mut fmt::Formatter<W>) -> fmt::Result {
+        match self {
+            BatchError::Line(number) => write!(
+                f,
+                "line {number}: expected a list in hexadecimal, two digits a byte, or - for no bytes"
+            ),
+            BatchError::Memory(_) => write!(f, "out of memory"),
         }
     }
-    text.len()
+}
+
+impl Error for BatchError {}
+
+impl From<AllocError> for BatchError {
+    ghost from_gives = { λ e b. b ≡ Memory e };
+
+    fn from(error: AllocError) -> BatchError {
+        BatchError::Memory(error)
+    }
 }
 
 // The line with the events of the list that a line writes, or none if it writes none.
@@ -28,26 +50,44 @@ fn answer_line(heap: Global, line: &[u8]) -> Result<Option<Vec<u8>>, AllocError>
     let Some(list) = parse_bytes(heap, line)? else {
         return Ok(None);
     };
-    let mut text = events_of(heap, list.as_slice(), false, 1, b"; ")?;
+    let list = ListFile {
+        list: list.as_slice(),
+        deck: false,
+        buffers: 1,
+    };
+    let mut text = list.events(heap, b"; ")?;
     text.push(b'\n')?;
     Ok(Some(text))
 }
 
-// The answers to all lines of a file, or the number of the first line that writes no list; the first line is number 1.
-pub fn batch_of(heap: Global, file: &[u8]) -> Result<Result<Vec<u8>, usize>, AllocError>
-    ensures { IfOk result (λ answers. outcome answers ≡ batch 1 (lines file.now)) }
+// The answers to all lines of a file, or the number of the first line that writes no list.
+pub fn batch_of(heap: Global, file: &[u8]) -> Result<Vec<u8>, BatchError>
+    ensures answers { IfOk result (λ answers. batch 1 (lines file.now) ≡ Ok answers.items) }
+    ensures line { (n : ℕ) → IsErrOf result (Line n) → batch 1 (lines file.now) ≡ Err n }
 {
     let mut out = Vec::new(heap);
-    let mut rest = file;
-    let mut number = 1;
-    while rest.len() > 0 {
-        let end = line_length(rest);
-        let Some(text) = answer_line(heap, &rest[0..end])? else {
-            return Ok(Err(number));
+    for (i, line) in file.split_inclusive(|b| *b == b'\n').enumerate() {
+        let line = line.strip_suffix(b"\n").unwrap_or(line);
+        let Some(text) = answer_line(heap, line)? else {
+            return Err(BatchError::Line(i + 1));
         };
         out.extend_from_slice(text.as_slice())?;
-        rest = &rest[(end + 1).min(rest.len())..];
-        number += 1;
     }
-    Ok(Ok(out))
+    Ok(out)
+}
+
+#[cfg(test)]
+mod tests {
+    use super::*;
+
+    #[test]
+    fn a_line_for_each_line(rt: HostRuntime) {
+        let wanted = "end\nInteger 1; end\n";
+        match batch_of(rt.alloc(), b"-\n31") {
+            Ok(text) => assert_eq!(rt; text.as_slice(), wanted.as_bytes()),
+            Err(error) => assert!(rt; false, "{}", error),
+        }
+        let refused = batch_of(rt.alloc(), b"31\n3\n");
+        assert!(rt; matches!(refused, Err(BatchError::Line(2))));
+    }
 }

@@ -3,29 +3,57 @@ ghost use Rattle.std.specs.Prelude.{◌≡◌, IfOk};
 ghost use Rattle.report.specs.Bytes.{bytes_report_lem};
 ghost use Rattle.report.specs.Inputs.{given_bytes, given_ending};
 
-use crate::hex::push_hex;
-use crate::inputs::{Buffered, FileSource};
-use source::drains::drain;
+use crate::hex::Hex;
+use crate::inputs::{Buffered, FileSource, ListFile};
+use source::drains::{DrainError, drain};
 use source::sources::ByteSource;
 use std::alloc::{AllocError, Global};
 
-// The bytes that a source gives, in hexadecimal, and how it ends, a line each.
-fn bytes_report<S: ByteSource>(heap: Global, source: &mut S) -> Result<Vec<u8>, AllocError>
-    ensures { IfOk result (λ v. v.items ≡ bytes_report_lem (S.ByteSource.bytes source.old) (S.ByteSource.ending source.old)) }
+// The bytes that a source gives, in hexadecimal, and how it ends, a line each: through any number of buffers the same.
+// Its bytes are handed out, as `events_report` hands out bytes.
+fn bytes_report<S: ByteSource + Drop>(
+    heap: Global,
+    source: S,
+    buffers: u8,
+) -> Result<Vec<u8>, AllocError>
+    ensures { IfOk result (λ v. v.items ≡ bytes_report_lem (S.ByteSource.bytes source) (S.ByteSource.ending source)) }
 {
     let mut bytes = Vec::new(heap);
-    let ending = drain(source, &mut bytes)?;
-    let mut out = Vec::new(heap);
-    push_hex(&mut out, bytes.as_slice())?;
-    let last = format!(in heap; "\n{ending}\n")?;
-    out.extend_from_slice(last.as_bytes())?;
-    Ok(out)
+    let drained = drain(&mut Buffered::new(source, buffers), &mut bytes);
+    let hex = Hex(bytes.as_slice());
+    let text = match drained {
+        Ok(()) => format!(in heap; "{hex}\nend\n")?,
+        Err(DrainError::Fault(fault)) => format!(in heap; "{hex}\n{fault}\n")?,
+        Err(DrainError::Memory(error)) => return Err(error),
+    };
+    Ok(text.into_bytes())
 }
 
-// What `attrs bytes` prints of a list: through any number of buffers the same.
-pub fn bytes_of(heap: Global, list: &[u8], deck: bool, buffers: u8) -> Result<Vec<u8>, AllocError>
-    ensures { IfOk result (λ v. v.items ≡ bytes_report_lem (given_bytes deck list.now) (given_ending deck list.now)) }
-{
-    let mut source = Buffered::new(FileSource::new(list, deck), buffers);
-    bytes_report(heap, &mut source)
+impl ListFile<'_> {
+    // What `attrs bytes` prints of a list.
+    pub fn bytes(&self, heap: Global) -> Result<Vec<u8>, AllocError>
+        ensures { IfOk result (λ v. v.items ≡ bytes_report_lem (given_bytes self.now.deck self.now.list.now) (given_ending self.now.deck self.now.list.now)) }
+    {
+        bytes_report(heap, FileSource::new(self.list, self.deck), self.buffers)
+    }
+}
+
+#[cfg(test)]
+mod tests {
+    use super::*;
+    use std::test::Fail;
+
+    #[test]
+    fn bytes_and_the_ending(rt: HostRuntime) -> Result<(), Fail> {
+        for (deck, printed) in [(false, "6162\nend\n"), (true, "\nfault 1\n")] {
+            let file = ListFile {
+                list: b"ab",
+                deck,
+                buffers: 2,
+            };
+            let text = file.bytes(rt.alloc())?;
+            assert_eq!(rt; text.as_slice(), printed.as_bytes());
+        }
+        Ok(())
+    }
 }

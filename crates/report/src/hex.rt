@@ -1,41 +1,39 @@
 // Bytes written in hexadecimal.
-ghost use Rattle.std.specs.Prelude.{◌≡◌, ◌<◌, ◌++◌, IfOk, vec_items, OnOk};
+ghost use Rattle.std.specs.Prelude.{◌≡◌, IfOk, Some, vec_items};
 ghost use Rattle.std.specs.Option.{option_map};
 ghost use Rattle.text.specs.Digits.{digit_of};
-ghost use Rattle.report.specs.Hex.{hex_digit_lem, hex, byte_of, from_hex, from_word, ReadsBack};
+ghost use Rattle.report.specs.Hex.{hex, byte_of, from_hex, from_word, ReadsBack};
 
 use std::alloc::{AllocError, Global};
+use std::fmt;
 use text::digits::digit;
 
-fn hex_digit(n: u8) -> u8
-    requires { n < 16 }
-    ensures { result ≡ hex_digit_lem n }
-{
-    if n < 10 { b'0' + n } else { b'a' + (n - 10) }
-}
+// Prints two digits for each byte.
+#[derive(Clone, Copy)]
+pub struct Hex<'a>(pub &'a [u8]);
 
-// Two digits for each byte, behind what `out` holds.
-pub fn push_hex(out: &mut Vec<u8>, bytes: &[u8]) -> Result<(), AllocError>
-    ensures { OnOk result (out.new.items ≡ out.old.items ++ hex bytes.now) }
-{
-    for b in bytes {
-        out.push(hex_digit(*b / 16))?;
-        out.push(hex_digit(*b % 16))?;
+impl fmt::Display for Hex<'_> {
+    ghost output = { λ x. Some (hex x.0.now) };
+
+    fn fmt<W: fmt::Write>(&self, f: &mut fmt::Formatter<W>) -> fmt::Result {
+        for &b in self.0 {
+            write!(f, "{b:02x}")?;
+        }
+        Ok(())
     }
-    Ok(())
 }
 
 // The byte of two hexadecimal digits.
 fn byte(high: u8, low: u8) -> Option<u8>
     ensures { result ≡ byte_of (digit_of 16 high) (digit_of 16 low) }
 {
-    match (digit(high, 16), digit(low, 16)) {
-        (Some(high), Some(low)) => Some((high * 16 + low) as u8),
-        _ => None,
-    }
+    let high = digit(high, 16)?;
+    let low = digit(low, 16)?;
+    Some((high * 16 + low) as u8)
 }
 
-// The bytes that a text of hexadecimal digits writes, two digits a byte; none of any other text.
+// The bytes that a text of hexadecimal digits writes, two digits a byte; none of any other text. (None, and no error enum: there is one
+// reason, and each caller has its own words for it.)
 pub fn parse_hex(heap: Global, text: &[u8]) -> Result<Option<Vec<u8>>, AllocError>
     ensures { IfOk result (λ bytes. option_map vec_items bytes ≡ from_hex text.now) }
 {
@@ -59,13 +57,11 @@ pub fn parse_hex(heap: Global, text: &[u8]) -> Result<Option<Vec<u8>>, AllocErro
 pub fn parse_bytes(heap: Global, word: &[u8]) -> Result<Option<Vec<u8>>, AllocError>
     ensures { IfOk result (λ bytes. option_map vec_items bytes ≡ from_word word.now) }
 {
-    if word.len() == 0 {
-        return Ok(None);
+    match word {
+        [] => Ok(None),
+        b"-" => Ok(Some(Vec::new(heap))),
+        _ => parse_hex(heap, word),
     }
-    if word.len() == 1 && word[0] == b'-' {
-        return Ok(Some(Vec::new(heap)));
-    }
-    parse_hex(heap, word)
 }
 
 // What is written is read back.

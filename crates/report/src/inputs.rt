@@ -1,13 +1,13 @@
 // Where a program takes a list from, chosen when it runs.
-ghost use Rattle.std.specs.Prelude.{◌≡◌};
-ghost use Rattle.report.specs.Inputs.{given_bytes, given_ending, file_bytes, file_ending, behind_bytes, behind_ending};
+ghost use Rattle.std.specs.Prelude.{◌≡◌, min};
+ghost use Rattle.report.specs.Inputs.{given_bytes, given_ending, file_bytes, file_ending, behind_bytes, behind_ending, between};
 
 use source::buffers::Buffer;
 use source::decks::Deck;
 use source::slices::SliceSource;
-use source::sources::ByteSource;
+use source::sources::{ByteSource, Fault};
 
-// A file's bytes as they are, or as a deck of cards.
+// A file's bytes as they are, or as a deck of cards. An enum, and no boxed `dyn ByteSource`: no function may make one and hand it out.
 #[derive(Drop)]
 pub enum FileSource<'a> {
     Plain(SliceSource<'a>),
@@ -15,6 +15,7 @@ pub enum FileSource<'a> {
 }
 
 impl<'a> FileSource<'a> {
+    // `deck` is yes or no, as the program's option is: an enum of two would name no more.
     pub fn new(file: &'a [u8], deck: bool) -> FileSource<'a>
         ensures bytes { file_bytes result ≡ given_bytes deck file.now }
         ensures ending { file_ending result ≡ given_ending deck file.now }
@@ -32,7 +33,7 @@ impl<'a> ByteSource for FileSource<'a> {
 
     ghost ending = { file_ending };
 
-    fn next(&mut self) -> Result<Option<u8>, u8> {
+    fn next(&mut self) -> Result<Option<u8>, Fault> {
         match self {
             FileSource::Plain(source) => source.next(),
             FileSource::Cards(source) => source.next(),
@@ -40,7 +41,7 @@ impl<'a> ByteSource for FileSource<'a> {
     }
 }
 
-// A source with up to three buffers between.
+// A source with up to three buffers between. An enum for the same reason: the types of the variants differ.
 #[derive(Drop)]
 pub enum Buffered<S> {
     Direct(S),
@@ -54,6 +55,7 @@ impl<S: ByteSource> Buffered<S> {
     pub fn new(source: S, buffers: u8) -> Buffered<S>
         ensures bytes { behind_bytes S.ByteSource.bytes result ≡ S.ByteSource.bytes source }
         ensures ending { behind_ending S.ByteSource.ending result ≡ S.ByteSource.ending source }
+        ensures count { between result ≡ min buffers 3 }
     {
         match buffers {
             0 => Buffered::Direct(source),
@@ -69,7 +71,7 @@ impl<S: ByteSource> ByteSource for Buffered<S> {
 
     ghost ending = { behind_ending S.ByteSource.ending };
 
-    fn next(&mut self) -> Result<Option<u8>, u8> {
+    fn next(&mut self) -> Result<Option<u8>, Fault> {
         match self {
             Buffered::Direct(source) => source.next(),
             Buffered::Once(source) => source.next(),
@@ -77,4 +79,12 @@ impl<S: ByteSource> ByteSource for Buffered<S> {
             Buffered::Thrice(source) => source.next(),
         }
     }
+}
+
+// A list in a file, and how it is read: as it is or as a deck of cards, and through how many buffers.
+#[derive(Clone, Copy)]
+pub struct ListFile<'a> {
+    pub list: &'a [u8],
+    pub deck: bool,
+    pub buffers: u8,
 }
