@@ -5,9 +5,7 @@ mod commands;
 mod troubles;
 
 use commands::{Command, Input};
-use report::batches::batch_of;
-use report::bytes::bytes_of;
-use report::readings::events_of;
+use report::batches::{BatchError, batch_of};
 use std::io::Read;
 use std::process::ExitCode;
 use std::{env, fs};
@@ -33,87 +31,66 @@ fn name_of(file: &str) -> &str {
 }
 
 // All of a file, or of standard input.
-fn contents(rt: &HostRuntime, file: &str) -> Result<Vec<u8>, Trouble> {
-    let mut bytes = Vec::new(rt.alloc());
+fn contents<'a>(rt: &HostRuntime, file: &'a str) -> Result<Vec<u8>, Trouble<'a>> {
     let read = if file == "-" {
-        match rt.stdin().read_to_end(&mut bytes) {
-            Ok(_) => Ok(bytes),
-            Err(error) => Err(error),
-        }
+        let mut bytes = Vec::new(rt.alloc());
+        rt.stdin().read_to_end(&mut bytes).map(|_| bytes)
     } else {
         fs::read(rt, file)
     };
-    match read {
-        Ok(bytes) => Ok(bytes),
-        Err(error) => Err(Trouble::unread(rt.alloc(), name_of(file), error)?),
-    }
+    read.map_err(|error| Trouble::Unread(name_of(file), error))
 }
 
-fn print(rt: &HostRuntime, text: &[u8]) -> Result<(), Trouble> {
-    match rt.stdout().write_all(text) {
-        Ok(()) => Ok(()),
-        Err(error) => Err(Trouble::Output(error)),
-    }
-}
-
-fn bytes(rt: &HostRuntime, input: Input) -> Result<(), Trouble> {
+fn bytes<'a>(rt: &HostRuntime, input: Input<'a>) -> Result<(), Trouble<'a>> {
     let list = contents(rt, input.file)?;
-    let text = bytes_of(rt.alloc(), list.as_slice(), input.deck, input.buffers)?;
-    print(rt, text.as_slice())
+    let text = input.list(list.as_slice()).bytes(rt.alloc())?;
+    Ok(rt.stdout().write_all(text.as_slice())?)
 }
 
-fn events(rt: &HostRuntime, input: Input) -> Result<(), Trouble> {
+fn events<'a>(rt: &HostRuntime, input: Input<'a>) -> Result<(), Trouble<'a>> {
     let list = contents(rt, input.file)?;
-    let mut text = events_of(
-        rt.alloc(),
-        list.as_slice(),
-        input.deck,
-        input.buffers,
-        b"\n",
-    )?;
+    let mut text = input.list(list.as_slice()).events(rt.alloc(), b"\n")?;
     text.push(b'\n')?;
-    print(rt, text.as_slice())
+    Ok(rt.stdout().write_all(text.as_slice())?)
 }
 
-fn batch(rt: &HostRuntime, file: &str) -> Result<(), Trouble> {
+fn batch<'a>(rt: &HostRuntime, file: &'a str) -> Result<(), Trouble<'a>> {
     let lines = contents(rt, file)?;
-    match batch_of(rt.alloc(), lines.as_slice())? {
-        Ok(text) => print(rt, text.as_slice()),
-        Err(number) => Err(Trouble::line(rt.alloc(), name_of(file), number)?),
+    match batch_of(rt.alloc(), lines.as_slice()) {
+        Ok(text) => Ok(rt.stdout().write_all(text.as_slice())?),
+        Err(BatchError::Memory(error)) => Err(error.into()),
+        Err(error) => Err(Trouble::Batch(name_of(file), error)),
     }
 }
 
-fn help(rt: &HostRuntime) -> Result<(), Trouble> {
-    match rt.println(HELP) {
-        Ok(()) => Ok(()),
-        Err(error) => Err(Trouble::Output(error)),
-    }
-}
-
-fn run(rt: &HostRuntime) -> Result<(), Trouble> {
-    let mut words = Vec::new(rt.alloc());
-    match env::args(rt) {
-        Ok(all) => {
-            for word in all.skip(1) {
-                words.push(word)?;
-            }
-        }
-        Err(error) => return Err(Trouble::unread(rt.alloc(), "the words of the command", error)?),
-    }
-    match commands::parse(rt.alloc(), words.as_slice())? {
-        Command::Help => help(rt),
+fn run<'a>(rt: &HostRuntime, words: &'a [String]) -> Result<(), Trouble<'a>> {
+    match commands::parse(words)? {
+        Command::Help => Ok(rt.println(HELP)?),
         Command::Bytes(input) => bytes(rt, input),
         Command::Events(input) => events(rt, input),
         Command::Batch(file) => batch(rt, file),
     }
 }
 
-fn main(rt: HostRuntime) -> ExitCode {
-    match run(&rt) {
+// The words behind the program's name.
+fn words(rt: &HostRuntime) -> Result<Vec<String>, Trouble<'static>> {
+    let all = env::args(rt).map_err(|error| Trouble::Unread("the words of the command", error))?;
+    Ok(all.skip(1).collect(rt.alloc())?)
+}
+
+fn status(rt: &HostRuntime, done: Result<(), Trouble>) -> ExitCode {
+    match done {
         Ok(()) => ExitCode::SUCCESS,
         Err(trouble) => {
             let _ = eprintln!(rt; "attrs: {trouble}");
             ExitCode::FAILURE
         }
+    }
+}
+
+fn main(rt: HostRuntime) -> ExitCode {
+    match words(&rt) {
+        Ok(words) => status(&rt, run(&rt, words.as_slice())),
+        Err(trouble) => status(&rt, Err(trouble)),
     }
 }
