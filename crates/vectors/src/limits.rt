@@ -1,4 +1,4 @@
-// The reader at its limits: the last position, a fault behind every byte of a list, a second question behind a refusal, and a short scratch.
+// The reader at its limits: the last position, a fault behind every byte of a list, a second call behind a refusal, and a short scratch.
 use crate::readings::answer;
 use crate::rows::Tally;
 use reader::ascii_reader::AsciiReader;
@@ -10,25 +10,47 @@ use std::alloc::Global;
 use stream::errors::Error;
 use stream::sources::EventSource;
 
-const LIST: [u8; 43] = *b"{ a = (-1, 'x\\256'); /* c */ b = 0x1F; } //";
+const LIST: &[u8] = b"{ a = (-1, 'x\\256'); /* c */ b = 0x1F; } //";
+
+// A source of blanks, and what its reading comes to.
+fn position<S: ByteSource + Drop>(
+    rt: &HostRuntime,
+    tally: &mut Tally,
+    blanks: S,
+    wanted: &str,
+) -> anyhow::Result<()> {
+    let text = answer(rt.alloc(), blanks)?;
+    tally.row(rt, wanted, text.as_slice() == wanted.as_bytes())
+}
 
 fn positions(rt: &HostRuntime, tally: &mut Tally) -> anyhow::Result<()> {
-    for (count, wanted) in [
-        (16_777_215, "end"),
-        (16_777_216, "refused 8 TooLong at 16777215"),
-    ] {
-        let text = answer(rt.alloc(), Repeated::new(b' ', count))?;
-        tally.row(rt, wanted, text.as_slice() == wanted.as_bytes())?;
-    }
-    for (count, wanted) in [
-        (16_777_215, "refused 7 Io code=9 at 16777214"),
-        (16_777_216, "refused 7 Io code=9 at 16777215"),
-        (16_777_217, "refused 8 TooLong at 16777215"),
-    ] {
-        let text = answer(rt.alloc(), Faulted::new(Repeated::new(b' ', count), 9))?;
-        tally.row(rt, wanted, text.as_slice() == wanted.as_bytes())?;
-    }
-    Ok(())
+    let blanks = |count| Repeated::new(b' ', count);
+    let broken = |count| Faulted::new(blanks(count), 9);
+    position(rt, tally, blanks(16_777_215), "end")?;
+    position(
+        rt,
+        tally,
+        blanks(16_777_216),
+        "refused 8 TooLong at 16777215",
+    )?;
+    position(
+        rt,
+        tally,
+        broken(16_777_215),
+        "refused 7 Io code=9 at 16777214",
+    )?;
+    position(
+        rt,
+        tally,
+        broken(16_777_216),
+        "refused 7 Io code=9 at 16777215",
+    )?;
+    position(
+        rt,
+        tally,
+        broken(16_777_217),
+        "refused 8 TooLong at 16777215",
+    )
 }
 
 // A fault behind a front of the list: its last byte is not taken.
@@ -38,39 +60,36 @@ fn fault_behind(heap: Global, front: &[u8], wanted: &str) -> anyhow::Result<bool
 }
 
 fn faults(rt: &HostRuntime, tally: &mut Tally) -> anyhow::Result<()> {
-    let list = LIST;
-    for taken in 0..43usize {
+    for taken in 0..LIST.len() {
         let wanted = format!(in rt.alloc(); "refused 7 Io code=9 at {taken}")?;
-        let front = &list[0..taken + 1];
+        let front = &LIST[..taken + 1];
         let same = fault_behind(rt.alloc(), front, wanted.as_str())?;
         tally.row(rt, wanted.as_str(), same)?;
     }
     Ok(())
 }
 
-// A short scratch is refused and touched nowhere, whatever the source has to say.
-fn refuses_short<E: EventSource>(source: &mut E) -> bool {
-    let mut scratch = [7u8; 1023];
-    let refused = matches!(source.next(&mut scratch), Err(Error::ShortScratch));
-    refused && scratch[0] == 7 && scratch[1022] == 7
-}
-
-// A refusal leaves 1,024 zeros, and what stands behind them.
-fn refuses<E: EventSource>(source: &mut E, wanted: Error) -> bool {
-    let mut scratch = [7u8; 1025];
-    let refused = matches!(source.next(&mut scratch), Err(error) if error == wanted);
-    refused && scratch[0] == 0 && scratch[1023] == 0 && scratch[1024] == 7
+// Whether a source that is lent a scratch of sevens answers the wanted refusal, and leaves so many zeros and sevens behind them.
+fn refuses<E: EventSource>(
+    source: &mut E,
+    scratch: &mut [u8],
+    wanted: Error,
+    zeros: usize,
+) -> bool {
+    let refused = matches!(source.next(scratch), Err(error) if error == wanted);
+    let left = |i| if i < zeros { 0 } else { 7 };
+    refused && scratch.iter().enumerate().all(|(i, b)| *b == left(i))
 }
 
 fn refusals(rt: &HostRuntime, tally: &mut Tally) -> anyhow::Result<()> {
     let mut reader = AsciiReader::new(SliceSource::new(b"/*"));
+    let open = Error::IncompleteComment { position: 2 };
     for _ in 0..3 {
-        tally.row(rt, "a short scratch", refuses_short(&mut reader))?;
-        tally.row(
-            rt,
-            "a refusal again",
-            refuses(&mut reader, Error::IncompleteComment { position: 2 }),
-        )?;
+        // A short scratch is refused and touched nowhere, whatever the source would answer.
+        let short = refuses(&mut reader, &mut [7; 1023], Error::ShortScratch, 0);
+        tally.row(rt, "a short scratch", short)?;
+        let again = refuses(&mut reader, &mut [7; 1025], open, 1024);
+        tally.row(rt, "a refusal again", again)?;
     }
     Ok(())
 }
