@@ -147,7 +147,8 @@ impl<S: ByteSource> Scanner<S> {
     }
 
     // Adds a byte to the text of `n` bytes at the front of `text`. These two are no struct: each function that is lent one would
-    // have to promise that it still holds the same array.
+    // have to promise that it still holds the same array. Each function that answers a length says that it fits, since the length ends
+    // up in an event as a plain number.
     fn add_byte(&self, text: &mut [u8; TEXT_BYTES], n: usize, byte: u8) -> Result<usize, Error>
         ensures ran { Ran (added (take n text.old) (byte ∷ [])) (seen S.ByteSource self.now) (text_at result text.new) (seen S.ByteSource self.now) }
         ensures fits { IfOk result (λ m. m ≤ 1024) }
@@ -190,10 +191,8 @@ impl<S: ByteSource> Scanner<S> {
         if !is_utf8(&text[..n]) {
             return Err(self.error(ErrorKind::InvalidUtf8AsciiStream));
         }
-        match Integer::from_str(&text[..n]) {
-            Some(i) => Ok(Event::Integer(i)),
-            None => Ok(Event::String(n)),
-        }
+        let number = Integer::from_str(&text[..n]);
+        Ok(number.map_or(Event::String(n), Event::Integer))
     }
 
     // The character of a `\U` escape: a UTF-16 unit, or two that are a pair.
