@@ -9,6 +9,7 @@ use crate::arrays::Arrays;
 use crate::nodes::Node;
 
 // Makes the last node of a row, if there is one, lead to another.
+// That an index lies within the nodes is asked in each contract here: links are plain numbers, by a rule of the project (`Node`).
 pub(crate) fn link_last(nodes: &mut [Node], last: Option<u16>, to: Option<u16>)
     requires { (k : ℕ) → last ≡ Some k → k < length nodes.old }
     ensures { nodes.new ≡ linked nodes.old last to }
