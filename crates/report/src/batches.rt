@@ -43,7 +43,8 @@ impl From<AllocError> for BatchError {
     }
 }
 
-// The line with the events of the list that a line writes, or none if it writes none.
+// The line with the events of the list that a line writes, or none if it writes none. (None inside Ok, as at `parse_hex`: only
+// `batch_of` knows the line's number.)
 fn answer_line(heap: Global, line: &[u8]) -> Result<Option<Vec<u8>>, AllocError>
     ensures { IfOk result (λ text. option_map vec_items text ≡ option_map answer (from_word line.now)) }
 {

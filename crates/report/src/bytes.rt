@@ -10,7 +10,7 @@ use source::sources::ByteSource;
 use std::alloc::{AllocError, Global};
 
 // The bytes that a source gives, in hexadecimal, and how it ends, a line each: through any number of buffers the same.
-// Its bytes are handed out, as `events_report` hands out bytes.
+// As bytes, since `attrs` writes bytes and the two methods of `ListFile` answer alike: a String would be no plainer.
 fn bytes_report<S: ByteSource + Drop>(
     heap: Global,
     source: S,

@@ -46,14 +46,10 @@ pub fn parse_hex(heap: Global, text: &[u8]) -> Result<Option<Vec<u8>>, AllocErro
         bytes.push(b)?;
         rest = behind;
     }
-    if rest.is_empty() {
-        Ok(Some(bytes))
-    } else {
-        Ok(None)
-    }
+    Ok(rest.is_empty().then_some(bytes))
 }
 
-// The bytes that a word of a script writes: `-` for no bytes, else hexadecimal digits.
+// The bytes that a word of a script writes: `-` for no bytes, else hexadecimal digits. (None inside Ok, as at `parse_hex`.)
 pub fn parse_bytes(heap: Global, word: &[u8]) -> Result<Option<Vec<u8>>, AllocError>
     ensures { IfOk result (λ bytes. option_map vec_items bytes ≡ from_word word.now) }
 {
