@@ -11,7 +11,8 @@ pub enum Command<'a> {
     Batch(&'a str),
 }
 
-// Where a list comes from: a `ListFile` before its file is read, with the file's name in place of its bytes.
+// Where a list comes from: a `ListFile` before its file is read, with the file's name in place of its bytes. (One struct with a
+// parameter for what it holds would be no plainer: the report's methods are for bytes alone.)
 #[derive(Clone, Copy)]
 pub struct Input<'a> {
     pub file: &'a str,
