@@ -21,13 +21,13 @@ where
 {
     let name = format!(in rt.alloc(); "{table}.txt")?;
     let text = fs::read_to_string(rt, name.as_str())?;
-    let mut tally = Tally::new(table);
+    let mut tally = Tally::new(rt, table);
     for line in text.lines() {
         if let Some((left, right)) = rows::parts(line, between) {
-            tally.row(rt, line, same(left, right)?)?;
+            tally.row(line, same(left, right)?)?;
         }
     }
-    tally.total(rt)
+    tally.total()
 }
 
 fn run(rt: &HostRuntime) -> anyhow::Result<()> {

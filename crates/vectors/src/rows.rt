@@ -1,4 +1,5 @@
 // Rows of a table: how they are parted and counted.
+use std::alloc::Global;
 
 // The two parts of a row, with the first `between` between them. A line that begins with # is no row.
 pub fn parts(line: &str, between: char) -> Option<(&str, &str)> {
@@ -12,33 +13,41 @@ pub fn parts(line: &str, between: char) -> Option<(&str, &str)> {
 // The rows of a table so far, and how many differ.
 #[derive(Drop)]
 pub struct Tally<'a> {
+    rt: &'a HostRuntime,
     table: &'a str,
     rows: u64,
     differ: u64,
 }
 
 impl<'a> Tally<'a> {
-    pub fn new(table: &'a str) -> Tally<'a> {
+    pub fn new(rt: &'a HostRuntime, table: &'a str) -> Tally<'a> {
         Tally {
+            rt,
             table,
             rows: 0,
             differ: 0,
         }
     }
 
+    // The allocator for what a row needs.
+    pub fn heap(&self) -> Global {
+        self.rt.alloc()
+    }
+
     // Counts a row, and prints it where it differs.
-    pub fn row(&mut self, rt: &HostRuntime, line: &str, same: bool) -> anyhow::Result<()> {
+    pub fn row(&mut self, line: &str, same: bool) -> anyhow::Result<()> {
         self.rows = self.rows.saturating_add(1);
         if !same {
             self.differ = self.differ.saturating_add(1);
             let table = self.table;
-            println!(rt; "{table}: differs: {line}")?;
+            println!(self.rt; "{table}: differs: {line}")?;
         }
         Ok(())
     }
 
-    pub fn total(self, rt: &HostRuntime) -> anyhow::Result<()> {
+    pub fn total(self) -> anyhow::Result<()> {
         let Tally {
+            rt,
             table,
             rows,
             differ,

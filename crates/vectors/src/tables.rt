@@ -40,10 +40,10 @@ fn encode_to(points: &[u32], bytes: &[u8]) -> bool {
     let mut out = [0u8; 64];
     let mut end = 0;
     for point in points {
-        match encode_utf8(*point, &mut out, end) {
-            Some(next) => end = next,
-            None => return false,
-        }
+        let Some(next) = encode_utf8(*point, &mut out, end) else {
+            return false;
+        };
+        end = next;
     }
     &out[..end] == bytes
 }
