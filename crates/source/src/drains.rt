@@ -1,10 +1,12 @@
 // Taking all that a source has left.
 ghost use Rattle.std.specs.Prelude.{◌≡◌, [], ◌++◌};
-ghost use Rattle.source.specs.Drains.{Drained};
+ghost use Rattle.source.specs.Drains.{Drained, drain_error_text};
 ghost use Rattle.source.specs.declared.drains.DrainError.TheVariants.{Fault as FaultError, Memory};
 
 use crate::sources::{ByteSource, Fault};
 use std::alloc::AllocError;
+use std::error::Error;
+use std::fmt;
 
 // Why a drain did not come to the end.
 #[derive(Clone, Copy, PartialEq, Eq, Debug)]
@@ -12,6 +14,19 @@ pub enum DrainError {
     Fault(Fault),
     Memory(AllocError),
 }
+
+impl fmt::Display for DrainError {
+    ghost output = { drain_error_text };
+
+    fn fmt<W: fmt::Write>(&self, f: &mut fmt::Formatter<W>) -> fmt::Result {
+        match self {
+            Self::Fault(fault) => write!(f, "{fault}"),
+            Self::Memory(error) => write!(f, "{error}"),
+        }
+    }
+}
+
+impl Error for DrainError {}
 
 impl From<Fault> for DrainError {
     ghost from_gives = { λ fault e. e ≡ FaultError fault };

@@ -1,7 +1,7 @@
 // What every byte source answers when it is asked for a byte.
 ghost use Rattle.std.specs.Prelude.{ℕ, List, Some};
 ghost use Rattle.source.specs.Asking.{Asked};
-ghost use Rattle.source.specs.Endings.{Ending, fault_text};
+ghost use Rattle.source.specs.Endings.{Ending, ending_text, fault_text};
 
 use std::error::Error;
 use std::fmt;
@@ -21,6 +21,24 @@ impl fmt::Display for Fault {
 }
 
 impl Error for Fault {}
+
+// How the bytes of a source end: there are no more, or a fault keeps it from giving more.
+pub type Ending = Result<(), Fault>;
+
+// Prints an ending: `end`, or the fault.
+#[derive(Clone, Copy, PartialEq, Eq, Debug)]
+pub struct PrintedEnding(pub Ending);
+
+impl fmt::Display for PrintedEnding {
+    ghost output = { λ e. Some (ending_text e.0) };
+
+    fn fmt<W: fmt::Write>(&self, f: &mut fmt::Formatter<W>) -> fmt::Result {
+        match self.0 {
+            Ok(()) => write!(f, "end"),
+            Err(fault) => write!(f, "{fault}"),
+        }
+    }
+}
 
 pub trait ByteSource {
     // The bytes that are left, in order.
