@@ -5,16 +5,16 @@ use Rattle.text.specs.Integers.{value}
 use Rattle.text.specs.declared.integer.Integer.{Integer as Number}
 use Rattle.stream.specs.Streams.{Ev, kind}
 use Rattle.stream.specs.declared.kinds.EventKind.{EventKind}
-use Rattle.stream.specs.declared.events.Event.{Event}
-use Rattle.stream.specs.declared.events.Event.TheVariants.{StartArray, StartDictionary, EndCollection, Boolean, Data, Integer, Real, String, Uid}
+use Rattle.stream.specs.declared.events.EventOf.{EventOf}
+use Rattle.stream.specs.declared.events.EventOf.TheVariants.{StartArray, StartDictionary, EndCollection, Boolean, Data, Integer, Real, String, Uid}
 
 -- an event that carries the length of its text, whose bytes stand at the front of the scratch (in antt no argument has a default)
 abbrev pub ScratchEvent : Type 0
-ScratchEvent = Event ℕ Number
+ScratchEvent = EventOf ℕ Number
 
 -- an event that lends its text
 abbrev pub LentEvent : Type 0
-LentEvent = Event (Bor (List ℕ)) Number
+LentEvent = EventOf (Bor (List ℕ)) Number
 
 -- how many bytes of the scratch are the event's text
 abbrev pub text_length_lem : ScratchEvent → ℕ
@@ -29,7 +29,7 @@ text_length_lem (String n) = n
 text_length_lem (Uid u) = 0
 
 -- its text, or what stands for one
-abbrev pub text_in : {T N : Type 0} → Event T N → Option T
+abbrev pub text_in : {T N : Type 0} → EventOf T N → Option T
 text_in (StartArray n) = None
 text_in (StartDictionary n) = None
 text_in EndCollection = None
@@ -41,7 +41,7 @@ text_in (String t) = Some t
 text_in (Uid u) = None
 
 -- the event, where f gives the texts and g the integers
-abbrev pub meant : {T N : Type 0} → (T → List ℕ) → (N → ℤ) → Event T N → Ev
+abbrev pub meant : {T N : Type 0} → (T → List ℕ) → (N → ℤ) → EventOf T N → Ev
 meant f g (StartArray n) = Ev.StartArray n
 meant f g (StartDictionary n) = Ev.StartDictionary n
 meant f g EndCollection = Ev.EndCollection
@@ -57,5 +57,5 @@ abbrev pub event : ScratchEvent → List ℕ → Ev
 event e s = meant (λ n. take n s) value e
 
 -- its kind, whatever its text and its integer
-abbrev pub kind_of : {T N : Type 0} → Event T N → EventKind
+abbrev pub kind_of : {T N : Type 0} → EventOf T N → EventKind
 kind_of e = kind (meant (λ _. []) (λ _. pos 0) e)

@@ -8,10 +8,10 @@ use crate::kinds::EventKind;
 use crate::uid::Uid;
 use text::integer::Integer;
 
-// A Data or a String carries a text, or what stands for one: by default its length, the bytes being at the front of the scratch.
+// A Data or a String carries a text, or what stands for one.
 // What an Integer carries is a parameter too, since only so may a type with an invariant stand in an enum beside a reference.
 #[derive(Clone, Copy, Debug)]
-pub enum Event<Text = usize, Number = Integer> {
+pub enum EventOf<Text, Number> {
     StartArray(Option<u64>),
     StartDictionary(Option<u64>),
     EndCollection,
@@ -23,20 +23,24 @@ pub enum Event<Text = usize, Number = Integer> {
     Uid(Uid),
 }
 
-impl<Text: Copy, Number: Copy> Event<Text, Number> {
+// A Data or a String carries the length of its text, whose bytes stand at the front of the scratch.
+// (No default parameters: of an event that is made for itself alone, they would not say which type it is.)
+pub type Event = EventOf<usize, Integer>;
+
+impl<Text: Copy, Number: Copy> EventOf<Text, Number> {
     pub fn kind(self) -> EventKind
         ensures { result ≡ kind_of self }
     {
         match self {
-            Event::StartArray(_) => EventKind::StartArray,
-            Event::StartDictionary(_) => EventKind::StartDictionary,
-            Event::EndCollection => EventKind::EndCollection,
-            Event::Boolean(_) => EventKind::Boolean,
-            Event::Data(_) => EventKind::Data,
-            Event::Integer(_) => EventKind::Integer,
-            Event::Real(_) => EventKind::Real,
-            Event::String(_) => EventKind::String,
-            Event::Uid(_) => EventKind::Uid,
+            EventOf::StartArray(_) => EventKind::StartArray,
+            EventOf::StartDictionary(_) => EventKind::StartDictionary,
+            EventOf::EndCollection => EventKind::EndCollection,
+            EventOf::Boolean(_) => EventKind::Boolean,
+            EventOf::Data(_) => EventKind::Data,
+            EventOf::Integer(_) => EventKind::Integer,
+            EventOf::Real(_) => EventKind::Real,
+            EventOf::String(_) => EventKind::String,
+            EventOf::Uid(_) => EventKind::Uid,
         }
     }
 
@@ -45,7 +49,7 @@ impl<Text: Copy, Number: Copy> Event<Text, Number> {
         ensures { result ≡ text_in self }
     {
         match self {
-            Event::Data(text) | Event::String(text) => Some(text),
+            EventOf::Data(text) | EventOf::String(text) => Some(text),
             _ => None,
         }
     }
@@ -101,4 +105,17 @@ impl PartialEq for Event {
 
 impl Eq for Event {
     ghost laws = { event_laws };
+}
+
+#[cfg(test)]
+mod tests {
+    use super::*;
+
+    // Of which type an event is, it says itself: nothing else here does.
+    #[test]
+    fn an_event_alone(rt: HostRuntime) {
+        assert_eq!(rt; Event::EndCollection.kind(), EventKind::EndCollection);
+        let start = Event::StartArray(None);
+        assert_eq!(rt; start.kind(), EventKind::StartArray);
+    }
 }

@@ -5,15 +5,16 @@ ghost use Rattle.stream.specs.Lists.{listed, StandsFor, text_of, unfit, fit_part
 ghost use Rattle.stream.specs.Streams.{EachFit, stream};
 
 use crate::errors::Error;
-use crate::events::Event;
+use crate::events::{Event, EventOf};
 use crate::scratch::{TEXT_BYTES, clear, put_text};
 use crate::sources::{Ending, EventSource};
+use text::integer::Integer;
 use text::utf8::is_utf8;
 
 // An event that lends its text.
-pub type ListedEvent<'a> = Event<&'a [u8]>;
+pub type ListedEvent<'a> = EventOf<&'a [u8], Integer>;
 
-impl<'a> Event<&'a [u8]> {
+impl<'a> ListedEvent<'a> {
     // Its text, or no byte where it has none.
     fn lent_text(self) -> &'a [u8]
         ensures { result.now ≡ text_of (listed self.entry) }
@@ -26,10 +27,10 @@ impl<'a> Event<&'a [u8]> {
         ensures { result ≡ unfit position (listed self.entry) }
     {
         match self {
-            Event::Data(text) | Event::String(text) if text.len() > TEXT_BYTES => {
+            ListedEvent::Data(text) | ListedEvent::String(text) if text.len() > TEXT_BYTES => {
                 Some(Error::TextTooLong { position })
             }
-            Event::String(text) if !is_utf8(text) => {
+            ListedEvent::String(text) if !is_utf8(text) => {
                 Some(Error::InvalidUtf8AsciiStream { position })
             }
             _ => None,
@@ -41,15 +42,15 @@ impl<'a> Event<&'a [u8]> {
         ensures { StandsFor result (listed self.entry) }
     {
         match self {
-            Event::StartArray(count) => Event::StartArray(count),
-            Event::StartDictionary(count) => Event::StartDictionary(count),
-            Event::EndCollection => Event::EndCollection,
-            Event::Boolean(value) => Event::Boolean(value),
-            Event::Data(text) => Event::Data(text.len()),
-            Event::Integer(value) => Event::Integer(value),
-            Event::Real(value) => Event::Real(value),
-            Event::String(text) => Event::String(text.len()),
-            Event::Uid(value) => Event::Uid(value),
+            ListedEvent::StartArray(count) => Event::StartArray(count),
+            ListedEvent::StartDictionary(count) => Event::StartDictionary(count),
+            ListedEvent::EndCollection => Event::EndCollection,
+            ListedEvent::Boolean(value) => Event::Boolean(value),
+            ListedEvent::Data(text) => Event::Data(text.len()),
+            ListedEvent::Integer(value) => Event::Integer(value),
+            ListedEvent::Real(value) => Event::Real(value),
+            ListedEvent::String(text) => Event::String(text.len()),
+            ListedEvent::Uid(value) => Event::Uid(value),
         }
     }
 }
