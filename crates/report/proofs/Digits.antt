@@ -1,22 +1,46 @@
 -- Hexadecimal digits, written and read.
-use Rattle.std.proofs.Common.{◌≡◌, ℕ, ◌+◌, ◌-◌, ◌*◌, ◌/◌, ◌%◌, ◌^◌, ◌<◌, ◌≤◌, false, List, [], ◌∷◌, ◌++◌, length, get_or, take, drop, Some, None, Option, sym, refl, ap, ◌∙◌, append_assoc, arith}
-use Rattle.std.proofs.lemmas.Fmt.{hex_byte}
-use Rattle.std.proofs.lemmas.List.{take_more}
+use Rattle.std.proofs.Common.{◌≡◌, ℕ, ◌+◌, ◌-◌, ◌*◌, ◌/◌, ◌%◌, ◌<◌, ◌≤◌, zero, suc, List, [], ◌∷◌, ◌++◌, length, get_or, set, length-set, take, drop, Some, None, Option, sym, refl, ap, ◌∙◌, append_assoc, arith}
+use Rattle.std.proofs.lemmas.List.{take_all, take_more, take_more_set}
+use Rattle.std.proofs.lemmas.Grind.{take-set_at}
 use Rattle.std.proofs.lemmas.Slice.{between_to_end}
 use Rattle.std.proofs.lemmas.Bool.Decides.{nat_tests}
-use Rattle.std.specs.Fmt.{digits, padded_integral, format_spec}
+use Rattle.std.specs.Str.{IsAscii}
 use Rattle.std.specs.Option.{option_map}
 use Rattle.text.specs.Digits.{digit_of}
 use Rattle.report.specs.Hex.{hex_digit, hex, byte_of, before, from_hex, ReadsBack}
 
--- the digits of one byte more
-hex-append : (xs ys : List ℕ) → hex (xs ++ ys) ≡ hex xs ++ hex ys
+-- the digits of more bytes
+pub hex-append : (xs ys : List ℕ) → hex (xs ++ ys) ≡ hex xs ++ hex ys
 hex-append [] ys = refl
 hex-append (b ∷ bs) ys = ap (λ (zs : List ℕ). hex_digit (b / 16) ∷ hex_digit (b % 16) ∷ zs) (hex-append bs ys)
 
-pub hex-take : (xs : List ℕ) (i : ℕ) → i < length xs → get_or xs i 0 < 256 →
-    hex (take i xs) ++ padded_integral (format_spec 32 0 4 2 (2 ^ 64 - 1)) false [] (digits 16 false (get_or xs i 0)) ≡ hex (take (i + 1) xs)
-hex-take xs i room byte = let more = take_more xs i 0 room in let two = hex_byte false (get_or xs i 0) byte in let split = hex-append (take i xs) (get_or xs i 0 ∷ []) in cc
+-- one byte more: its two digits are written behind those of the bytes before
+pub two_more : (block bytes : List ℕ) (i high low : ℕ) → 2 * i + 1 < length block → i < length bytes → take (2 * i) block ≡ hex (take i bytes) →
+    high ≡ hex_digit (get_or bytes i 0 / 16) → low ≡ hex_digit (get_or bytes i 0 % 16) → take (2 * (i + 1)) (set (set block (2 * i) high) (2 * i + 1) low) ≡ hex (take (i + 1) bytes)
+two_more block bytes i high low room inside before is_high is_low =
+    let more = take_more bytes i 0 inside in
+    let split = hex-append (take i bytes) (get_or bytes i 0 ∷ []) in
+    let one = take_more_set block (2 * i) high (omega arith) in
+    let two = take-set_at (set block (2 * i) high) (2 * i + 1) (2 * (i + 1)) low (omega arith) (omega (arith, length-set block (2 * i) high)) in
+    let whole = append_assoc (take (2 * i) block) (high ∷ []) (low ∷ []) in
+    cc
+
+-- all are written
+pub all_written : (block bytes : List ℕ) (i : ℕ) → length bytes ≤ i → i ≤ length bytes → take (2 * i) block ≡ hex (take i bytes) → take (2 * length bytes) block ≡ hex bytes
+all_written block bytes i over within before =
+    let last : i ≡ length bytes = omega arith in
+    let whole = take_all i bytes over in
+    cc
+
+digit_ascii : (n : ℕ) → n < 16 → hex_digit n < 128
+digit_ascii n h = grind (arith, nat_tests)
+
+-- digits are ASCII
+pub hex_ascii : (bs : List ℕ) → ((k : ℕ) → get_or bs k 0 < 256) → IsAscii (hex bs)
+hex_ascii [] fit i = omega arith
+hex_ascii (b ∷ bs) fit zero = let byte : b < 256 = fit 0 in digit_ascii (b / 16) (omega arith)
+hex_ascii (b ∷ bs) fit (suc zero) = digit_ascii (b % 16) (omega arith)
+hex_ascii (b ∷ bs) fit (suc (suc i)) = hex_ascii bs (λ k. fit (suc k)) i
 
 digit_back : (n : ℕ) → n < 16 → digit_of 16 (hex_digit n) ≡ Some n
 digit_back n h = grind (arith, nat_tests)

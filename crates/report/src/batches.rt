@@ -12,7 +12,7 @@ use std::error::Error;
 use std::fmt;
 
 // Why a file of lists is not answered.
-#[derive(Clone, Copy, Debug)]
+#[derive(Clone, Copy, PartialEq, Eq, Debug)]
 pub enum BatchError {
     // A line writes no list; the first line is number 1.
     Line(usize),

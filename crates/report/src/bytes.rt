@@ -6,7 +6,7 @@ ghost use Rattle.report.specs.Inputs.{given_bytes, given_ending};
 use crate::hex::Hex;
 use crate::inputs::{Buffered, FileSource, ListFile};
 use source::drains::{DrainError, drain};
-use source::sources::ByteSource;
+use source::sources::{ByteSource, PrintedEnding};
 use std::alloc::{AllocError, Global};
 
 // The bytes that a source gives, in hexadecimal, and how it ends, a line each: through any number of buffers the same.
@@ -21,11 +21,12 @@ fn bytes_report<S: ByteSource + Drop>(
     let mut bytes = Vec::new(heap);
     let drained = drain(&mut Buffered::new(source, buffers), &mut bytes);
     let hex = Hex(bytes.as_slice());
-    let text = match drained {
-        Ok(()) => format!(in heap; "{hex}\nend\n")?,
-        Err(DrainError::Fault(fault)) => format!(in heap; "{hex}\n{fault}\n")?,
+    let ending = PrintedEnding(match drained {
+        Ok(()) => Ok(()),
+        Err(DrainError::Fault(fault)) => Err(fault),
         Err(DrainError::Memory(error)) => return Err(error),
-    };
+    });
+    let text = format!(in heap; "{hex}\n{ending}\n")?;
     Ok(text.into_bytes())
 }
 

@@ -55,12 +55,17 @@ impl fmt::Display for PrintedEvent<'_> {
     }
 }
 
-// What a value prints, behind what `out` holds.
-fn push_shown<D: fmt::Display + Drop>(out: &mut Vec<u8>, value: D) -> Result<(), AllocError>
+// What a value prints, behind what `out` holds. It is written in `line` first, whose room is used again from call to call.
+fn push_shown<D: fmt::Display + Drop>(
+    out: &mut Vec<u8>,
+    line: &mut String,
+    value: D,
+) -> Result<(), AllocError>
     ensures { OnOk result (AppendsText out.old.items out.new.items (D.Display.output value)) }
 {
-    let text = value.to_string(*out.allocator())?;
-    out.extend_from_slice(text.as_bytes())
+    line.clear();
+    line.write(value)?;
+    out.extend_from_slice(line.as_bytes())
 }
 
 // The events that a source gives, `between` behind each, and then how they end.
@@ -73,14 +78,15 @@ fn push_events<E: EventSource>(
     ensures text { OnOk result (out.new.items ≡ out.old.items ++ stream_text between.now (E.EventSource.means source.old)) }
     ensures left { OnOk result (E.EventSource.means source.new ≡ over (E.EventSource.means source.old).ending) }
 {
+    let mut line = String::new(*out.allocator());
     loop {
         match source.next(scratch) {
             Ok(Some(event)) => {
-                push_shown(out, PrintedEvent { event, scratch })?;
+                push_shown(out, &mut line, PrintedEvent { event, scratch })?;
                 out.extend_from_slice(between)?;
             }
-            Ok(None) => return push_shown(out, "end"),
-            Err(error) => return push_shown(out, error),
+            Ok(None) => return push_shown(out, &mut line, "end"),
+            Err(error) => return push_shown(out, &mut line, error),
         }
     }
 }

@@ -1,23 +1,47 @@
 // Bytes written in hexadecimal.
-ghost use Rattle.std.specs.Prelude.{◌≡◌, IfOk, Some, vec_items};
+ghost use Rattle.std.specs.Prelude.{◌≡◌, ◌<◌, ◌≤◌, length, IfOk, Some, vec_items};
 ghost use Rattle.std.specs.Option.{option_map};
 ghost use Rattle.text.specs.Digits.{digit_of};
-ghost use Rattle.report.specs.Hex.{hex, byte_of, from_hex, from_word, ReadsBack};
+ghost use Rattle.report.specs.declared.hex.TheConstants.{BLOCK};
+ghost use Rattle.report.specs.Hex.{hex_digit as hex_digit_of, hex, byte_of, from_hex, from_word, ReadsBack};
 
 use std::alloc::{AllocError, Global};
-use std::fmt;
+use std::{fmt, str};
 use text::digits::digit;
+
+// How many bytes are written at a time.
+const BLOCK: usize = 64;
+
+fn hex_digit(n: u8) -> u8
+    requires { n < 16 }
+    ensures { result ≡ hex_digit_of n }
+{
+    if n < 10 { b'0' + n } else { b'a' + (n - 10) }
+}
+
+// Two digits for each byte, as a text in a lent block.
+fn hex_text<'a>(bytes: &[u8], block: &'a mut [u8; 2 * BLOCK]) -> &'a str
+    requires { length bytes.now ≤ BLOCK }
+    ensures { result.now ≡ hex bytes.now }
+{
+    for (i, &b) in bytes.iter().enumerate() {
+        block[2 * i] = hex_digit(b / 16);
+        block[2 * i + 1] = hex_digit(b % 16);
+    }
+    str::from_utf8(&block[..2 * bytes.len()]).unwrap()
+}
 
 // Prints two digits for each byte.
 #[derive(Clone, Copy)]
 pub struct Hex<'a>(pub &'a [u8]);
 
+// By blocks: a `write!` for each byte takes several times as long.
 impl fmt::Display for Hex<'_> {
     ghost output = { λ x. Some (hex x.0.now) };
 
     fn fmt<W: fmt::Write>(&self, f: &mut fmt::Formatter<W>) -> fmt::Result {
-        for &b in self.0 {
-            write!(f, "{b:02x}")?;
+        for part in self.0.chunks(BLOCK) {
+            f.write_str(hex_text(part, &mut [0; 2 * BLOCK]))?;
         }
         Ok(())
     }
