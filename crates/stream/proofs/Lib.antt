@@ -3,4 +3,5 @@ pub mod Listed
 pub mod Nexts
 pub mod Reals
 pub mod Refusals
+mod Sames
 pub mod Zeros

@@ -1,4 +1,4 @@
--- When two events are equal: where they are the same.
+-- When kinds, refusals and events are equal: where they are the same.
 use Rattle.std.specs.Prelude.{◌≡◌, ℕ, Bool, true, false, ◌&&◌, Some, None, Option, ◌==◌, Float, Decides, refl}
 use Rattle.std.specs.Cmp.{IsEquivalence, decided, booleans_Decides, signed_Decides, unsigned_Decides}
 use Rattle.std.specs.Option.{option_eq}
@@ -9,9 +9,49 @@ use Rattle.std.proofs.lemmas.Bool.{and_parts, and_from}
 use lib.Ieee.{nan, inf, fin}
 use Rattle.text.specs.Integers.{value}
 use Rattle.text.proofs.Forms.{one_form_each_lem}
+use Rattle.stream.specs.declared.errors.Error.{Error}
 use Rattle.stream.specs.declared.events.EventOf.{EventOf}
 use Rattle.stream.specs.Events.{ScratchEvent}
+use Rattle.stream.specs.declared.kinds.EventKind.{EventKind}
 use Rattle.stream.specs.declared.uid.Uid.{Uid}
+
+-- kinds
+abbrev pub equal_kind : EventKind → EventKind → Bool
+equal_kind EventKind.StartArray EventKind.StartArray = true
+equal_kind EventKind.StartDictionary EventKind.StartDictionary = true
+equal_kind EventKind.EndCollection EventKind.EndCollection = true
+equal_kind EventKind.Boolean EventKind.Boolean = true
+equal_kind EventKind.Data EventKind.Data = true
+equal_kind EventKind.Integer EventKind.Integer = true
+equal_kind EventKind.Real EventKind.Real = true
+equal_kind EventKind.String EventKind.String = true
+equal_kind EventKind.Uid EventKind.Uid = true
+equal_kind EventKind.ValueOrStartCollection EventKind.ValueOrStartCollection = true
+equal_kind EventKind.DictionaryKeyOrEndCollection EventKind.DictionaryKeyOrEndCollection = true
+equal_kind _ _ = false
+
+-- refusals: of one reason, and what they carry is the same
+abbrev pub equal_error : Error → Error → Bool
+equal_error Error.ShortScratch Error.ShortScratch = true
+equal_error Error.NoValue Error.NoValue = true
+equal_error Error.WrongKind Error.WrongKind = true
+equal_error Error.NoTree Error.NoTree = true
+equal_error Error.Inside Error.Inside = true
+equal_error Error.BadKey Error.BadKey = true
+equal_error (Error.Io c p) (Error.Io d q) = c == d && p == q
+equal_error (Error.TooLong p) (Error.TooLong q) = p == q
+equal_error (Error.TextTooLong p) (Error.TextTooLong q) = p == q
+equal_error (Error.UnclosedString p) (Error.UnclosedString q) = p == q
+equal_error (Error.IncompleteComment p) (Error.IncompleteComment q) = p == q
+equal_error (Error.InvalidUtf8AsciiStream p) (Error.InvalidUtf8AsciiStream q) = p == q
+equal_error (Error.InvalidOctalString p) (Error.InvalidOctalString q) = p == q
+equal_error (Error.InvalidUtf16String p) (Error.InvalidUtf16String q) = p == q
+equal_error (Error.UnexpectedEventType e f) (Error.UnexpectedEventType g h) = equal_kind e g && equal_kind f h
+equal_error (Error.ExpectedEndOfEventStream f) (Error.ExpectedEndOfEventStream g) = equal_kind f g
+equal_error Error.NoNodes Error.NoNodes = true
+equal_error Error.NoTextCells Error.NoTextCells = true
+equal_error Error.UnexpectedEndOfEventStream Error.UnexpectedEndOfEventStream = true
+equal_error _ _ = false
 
 -- floats: not-a-number is one value, and 0.0 and -0.0 are two
 abbrev pub equal_float : Float → Float → Bool
@@ -41,6 +81,89 @@ no h = absurd (true≢false (sym h))
 -- a test that holds of a thing and itself, and of nothing else
 by : {K : Type 0} (E : K → K → Bool) → ((x : K) → E x x ≡ true) → (x y : K) → (E x y ≡ true → x ≡ y) → Decides (E x y) (x ≡ y)
 by E itself x y only = (only, λ e. subst (λ z. E x z ≡ true) e (itself x))
+
+kind_itself : (x : EventKind) → equal_kind x x ≡ true
+kind_itself EventKind.StartArray = refl
+kind_itself EventKind.StartDictionary = refl
+kind_itself EventKind.EndCollection = refl
+kind_itself EventKind.Boolean = refl
+kind_itself EventKind.Data = refl
+kind_itself EventKind.Integer = refl
+kind_itself EventKind.Real = refl
+kind_itself EventKind.String = refl
+kind_itself EventKind.Uid = refl
+kind_itself EventKind.ValueOrStartCollection = refl
+kind_itself EventKind.DictionaryKeyOrEndCollection = refl
+
+kind_only : (x y : EventKind) → equal_kind x y ≡ true → x ≡ y
+kind_only EventKind.StartArray EventKind.StartArray h = refl
+kind_only EventKind.StartDictionary EventKind.StartDictionary h = refl
+kind_only EventKind.EndCollection EventKind.EndCollection h = refl
+kind_only EventKind.Boolean EventKind.Boolean h = refl
+kind_only EventKind.Data EventKind.Data h = refl
+kind_only EventKind.Integer EventKind.Integer h = refl
+kind_only EventKind.Real EventKind.Real h = refl
+kind_only EventKind.String EventKind.String h = refl
+kind_only EventKind.Uid EventKind.Uid h = refl
+kind_only EventKind.ValueOrStartCollection EventKind.ValueOrStartCollection h = refl
+kind_only EventKind.DictionaryKeyOrEndCollection EventKind.DictionaryKeyOrEndCollection h = refl
+kind_only _ _ h = no h
+
+pub kind_decides : (x y : EventKind) → Decides (equal_kind x y) (x ≡ y)
+kind_decides x y = by equal_kind kind_itself x y (kind_only x y)
+
+error_itself : (x : Error) → equal_error x x ≡ true
+error_itself Error.ShortScratch = refl
+error_itself Error.NoValue = refl
+error_itself Error.WrongKind = refl
+error_itself Error.NoTree = refl
+error_itself Error.Inside = refl
+error_itself Error.BadKey = refl
+error_itself (Error.Io c p) = and_from (c == c) (p == p) ((unsigned_Decides c c).1 refl) ((unsigned_Decides p p).1 refl)
+error_itself (Error.TooLong p) = (unsigned_Decides p p).1 refl
+error_itself (Error.TextTooLong p) = (unsigned_Decides p p).1 refl
+error_itself (Error.UnclosedString p) = (unsigned_Decides p p).1 refl
+error_itself (Error.IncompleteComment p) = (unsigned_Decides p p).1 refl
+error_itself (Error.InvalidUtf8AsciiStream p) = (unsigned_Decides p p).1 refl
+error_itself (Error.InvalidOctalString p) = (unsigned_Decides p p).1 refl
+error_itself (Error.InvalidUtf16String p) = (unsigned_Decides p p).1 refl
+error_itself (Error.UnexpectedEventType e f) = and_from (equal_kind e e) (equal_kind f f) (kind_itself e) (kind_itself f)
+error_itself (Error.ExpectedEndOfEventStream f) = kind_itself f
+error_itself Error.NoNodes = refl
+error_itself Error.NoTextCells = refl
+error_itself Error.UnexpectedEndOfEventStream = refl
+
+error_only : (x y : Error) → equal_error x y ≡ true → x ≡ y
+error_only Error.ShortScratch Error.ShortScratch h = refl
+error_only Error.NoValue Error.NoValue h = refl
+error_only Error.WrongKind Error.WrongKind h = refl
+error_only Error.NoTree Error.NoTree h = refl
+error_only Error.Inside Error.Inside h = refl
+error_only Error.BadKey Error.BadKey h = refl
+error_only (Error.Io c p) (Error.Io d q) h =
+    let both = and_parts (c == d) (p == q) h in
+    λ i. Error.Io ((unsigned_Decides c d).0 both.0 i) ((unsigned_Decides p q).0 both.1 i)
+error_only (Error.TooLong p) (Error.TooLong q) h = ap Error.TooLong ((unsigned_Decides p q).0 h)
+error_only (Error.TextTooLong p) (Error.TextTooLong q) h = ap Error.TextTooLong ((unsigned_Decides p q).0 h)
+error_only (Error.UnclosedString p) (Error.UnclosedString q) h = ap Error.UnclosedString ((unsigned_Decides p q).0 h)
+error_only (Error.IncompleteComment p) (Error.IncompleteComment q) h = ap Error.IncompleteComment ((unsigned_Decides p q).0 h)
+error_only (Error.InvalidUtf8AsciiStream p) (Error.InvalidUtf8AsciiStream q) h = ap Error.InvalidUtf8AsciiStream ((unsigned_Decides p q).0 h)
+error_only (Error.InvalidOctalString p) (Error.InvalidOctalString q) h = ap Error.InvalidOctalString ((unsigned_Decides p q).0 h)
+error_only (Error.InvalidUtf16String p) (Error.InvalidUtf16String q) h = ap Error.InvalidUtf16String ((unsigned_Decides p q).0 h)
+error_only (Error.UnexpectedEventType e f) (Error.UnexpectedEventType g k) h =
+    let both = and_parts (equal_kind e g) (equal_kind f k) h in
+    λ i. Error.UnexpectedEventType (kind_only e g both.0 i) (kind_only f k both.1 i)
+error_only (Error.ExpectedEndOfEventStream f) (Error.ExpectedEndOfEventStream g) h = ap Error.ExpectedEndOfEventStream (kind_only f g h)
+error_only Error.NoNodes Error.NoNodes h = refl
+error_only Error.NoTextCells Error.NoTextCells h = refl
+error_only Error.UnexpectedEndOfEventStream Error.UnexpectedEndOfEventStream h = refl
+error_only _ _ h = no h
+
+pub error_decides : (x y : Error) → Decides (equal_error x y) (x ≡ y)
+error_decides x y = by equal_error error_itself x y (error_only x y)
+
+pub error_laws : IsEquivalence equal_error
+error_laws = decided equal_error error_decides
 
 float_itself : (x : Float) → equal_float x x ≡ true
 float_itself nan = refl

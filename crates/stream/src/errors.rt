@@ -1,5 +1,7 @@
 // Why a call is refused: one number for each reason, and what it carries.
 ghost use Rattle.std.specs.Prelude.{◌≡◌, Some, Decides};
+ghost use Rattle.std.specs.Cmp.{partial_equiv_from_equiv};
+ghost use Rattle.stream.specs.Equals.{equal_error, error_laws};
 ghost use Rattle.stream.specs.Errors.{number_of, position_of, code_of, expected_of, found_of, name_of, refusal_text};
 
 use crate::kinds::EventKind;
@@ -9,7 +11,7 @@ use std::fmt;
 // The first six are of a call: too little scratch, or an argument that names nothing, the wrong thing or no key. The next eight are
 // of bytes: their source broke, there are too many, or they spell no list; a position counts the bytes that were taken. The rest are
 // of events: they spell no value, or the store is full.
-#[derive(Clone, Copy, PartialEq, Eq, Debug)]
+#[derive(Clone, Copy, Debug)]
 pub enum Error {
     ShortScratch,
     NoValue,
@@ -154,6 +156,28 @@ impl Error {
             Error::UnexpectedEndOfEventStream => "UnexpectedEndOfEventStream",
         }
     }
+}
+
+// By hand: of a derived `==` a caller is not told at the call that it decides sameness.
+impl PartialEq for Error {
+    ghost eq = { equal_error };
+
+    ghost laws = { partial_equiv_from_equiv error_laws };
+
+    fn eq(&self, other: &Error) -> bool
+        ensures value { result ≡ equal_error self.now other.now }
+        ensures same { Decides result (self.now ≡ other.now) }
+    {
+        self.number() == other.number()
+            && self.code() == other.code()
+            && self.expected() == other.expected()
+            && self.found() == other.found()
+            && self.position() == other.position()
+    }
+}
+
+impl Eq for Error {
+    ghost laws = { error_laws };
 }
 
 // Two refusals are equal exactly where they are the same: of one reason, and what they carry is the same. So are two kinds.
