@@ -1,5 +1,5 @@
 -- A character and what follows it, by the rows of the table.
-use Rattle.std.proofs.Common.{◌≡◌, ℕ, ◌-◌, ◌<◌, ◌≤◌, Bool, true, false, ◌⊎◌, inl, inr, List, [], ◌∷◌, length, get_or, take, drop, sym, refl, arith}
+use Rattle.std.proofs.Common.{◌≡◌, ℕ, suc, ◌+◌, ◌-◌, ◌<◌, ◌≤◌, Bool, true, false, ◌⊎◌, inl, inr, List, [], ◌∷◌, length, get_or, take, drop, sym, refl, add-one, drop-cons, length-drop, arith}
 use Rattle.std.proofs.lemmas.Bool.Decides.{nat_tests}
 use Rattle.std.proofs.lemmas.List.{take_rest}
 use Rattle.text.proofs.Texts.{utf8_append, utf8_ascii}
@@ -37,15 +37,17 @@ rest_4 a (b ∷ []) h = absurd (omega arith)
 rest_4 a (b ∷ c ∷ []) h = absurd (omega arith)
 rest_4 a (b ∷ c ∷ d ∷ bs) h = rw take_rest (sym (utf8_append (a ∷ b ∷ c ∷ d ∷ []) bs (grind (arith, nat_tests))))
 
--- the same of a list that begins with a byte of ASCII, and of none
-pub rest_1 : (bs : List ℕ) → 1 ≤ length bs → get_or bs 0 0 ≤ 0x7F → utf8 (take (length bs - 1) (drop 1 bs)) ≡ utf8 bs
-rest_1 [] l h = absurd (omega arith)
-rest_1 (a ∷ bs) l h = rw take_rest (sym (utf8_ascii a bs h))
+-- behind a byte of ASCII as well, and at the end there is nothing
+pub ascii_at : (bs : List ℕ) (i : ℕ) → i < length bs → get_or bs i 0 ≤ 0x7F → utf8 (drop (i + 1) bs) ≡ utf8 (drop i bs)
+ascii_at bs i l h = rw (add-one, drop-cons bs i 0 l) (sym (utf8_ascii (get_or bs i 0) (drop (suc i) bs) h))
 
 pub rest_0 : (bs : List ℕ) → length bs < 1 → utf8 bs ≡ true
 unfolding utf8
 rest_0 [] l = refl
 rest_0 (a ∷ bs) l = absurd (omega arith)
+
+pub ends_at : (bs : List ℕ) (i : ℕ) → length bs ≤ i → utf8 (drop i bs) ≡ true
+ends_at bs i l = rest_0 (drop i bs) (omega (arith, length-drop i bs))
 
 begins : (a : ℕ) (bs : List ℕ) → utf8 (a ∷ bs) ≡ true → (a ≤ 0x7F) ⊎ Two a bs ⊎ Three a bs ⊎ Four a bs
 unfolding utf8

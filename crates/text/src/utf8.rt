@@ -1,5 +1,5 @@
 // UTF-8 by RFC 3629: whether bytes are UTF-8, and the bytes of a scalar value.
-ghost use Rattle.std.specs.Prelude.{◌≡◌, ◌≤◌, false, ◌∷◌, length, IfSome, IfNone};
+ghost use Rattle.std.specs.Prelude.{◌≡◌, ◌-◌, ◌≤◌, false, ◌∷◌, length, drop, IfSome, IfNone};
 ghost use Rattle.text.specs.Utf8.{utf8, Utf8Agrees, Utf8Laws, Written};
 
 // What follows the character that begins with `lead`, if the bytes behind it go on with that character. (`str::from_utf8`
@@ -7,6 +7,7 @@ ghost use Rattle.text.specs.Utf8.{utf8, Utf8Agrees, Utf8Laws, Written};
 #[tactic(auto, using(crate::proofs::Rows::rest_2, crate::proofs::Rows::rest_3, crate::proofs::Rows::rest_4, crate::proofs::Texts::utf8_ascii))]
 fn after_char(lead: u8, behind: &[u8]) -> Option<&[u8]>
     ensures rest { IfSome result (λ rest. utf8 rest.now ≡ utf8 (lead ∷ behind.now)) }
+    ensures end { IfSome result (λ rest. rest.now ≡ drop (length behind.now - length rest.now) behind.now) }
     ensures shorter { IfSome result (λ rest. length rest.now ≤ length behind.now) }
     ensures none { IfNone result (utf8 (lead ∷ behind.now) ≡ false) }
 {
@@ -24,21 +25,22 @@ fn after_char(lead: u8, behind: &[u8]) -> Option<&[u8]>
 }
 
 // Whether the bytes are UTF-8.
-#[tactic(auto, using(crate::proofs::Rows::rest_0, crate::proofs::Rows::rest_1))]
+#[tactic(auto, using(crate::proofs::Rows::ascii_at, crate::proofs::Rows::ends_at))]
 pub fn is_utf8(bytes: &[u8]) -> bool
     ensures { result ≡ utf8 bytes.now }
 {
-    let mut rest = bytes;
-    while let [lead, behind @ ..] = rest {
+    // By an index: with a slice that is cut shorter byte by byte, ASCII takes half as long again.
+    let mut at = 0;
+    while at < bytes.len() {
         // Most bytes are ASCII: they need no more than this test.
-        if *lead < 0x80 {
-            rest = behind;
+        if bytes[at] < 0x80 {
+            at += 1;
             continue;
         }
-        let Some(next) = after_char(*lead, behind) else {
+        let Some(rest) = after_char(bytes[at], &bytes[at + 1..]) else {
             return false;
         };
-        rest = next;
+        at = bytes.len() - rest.len();
     }
     true
 }
