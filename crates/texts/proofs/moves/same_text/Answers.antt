@@ -1,9 +1,9 @@
-use Rattle.std.proofs.Common.{◌≡◌, ℕ, ◌⊎◌, [], length, None, refl, sym, ap, ◌∙◌, subst, inl, inr, arith}
+use Rattle.std.proofs.Common.{◌≡◌, ℕ, suc, ◌<◌, ◌⊎◌, [], length, get_or, drop, None, refl, sym, ap, ◌∙◌, subst, inl, inr, add-one, drop-cons, length-drop, arith}
 use Rattle.std.specs.Iterator.Adapters.{zip_first, zip_second}
 use Rattle.std.specs.Slice.Iter.{chunks_rest}
 use Rattle.texts.specs.Texts.{text_of, Spans}
 use Rattle.texts.proofs.Reading.{begun}
-use Rattle.texts.proofs.Comparing.{pair, comparing_done}
+use Rattle.texts.proofs.Comparing.{pair, pair_more, comparing_done}
 use Rattle.texts.proofs.moves.same_text.Goals as goal
 
 pub parts-init : goal.parts-init
@@ -18,9 +18,17 @@ parts-init c =
     }
 
 pub bytes-init : goal.bytes-init
-bytes-init c =
-    rw (c.into_iter-byte-iterator.ensures.into_iter_gives, c.zip-byte-items.ensures.first, c.iter.ensures.rest, c.zip-byte-items.ensures.second.0)
-    (pair c.args.cells.now c.args.first c.args.n c.args.key.now c.parts.part-iterator c.next.new.self c.in-Some.part c.in-Some.wanted c.parts.invariant.size c.parts.invariant.comparing c.in-Some.ensures.steps)
+bytes-init c = pair c.args.cells.now c.args.first c.args.n c.args.key.now c.parts.part-iterator c.next.new.self c.in-Some.part c.in-Some.wanted c.parts.invariant.size c.parts.invariant.comparing c.in-Some.ensures.steps
+
+pub bytes-preserved : goal.bytes-preserved
+bytes-preserved c =
+    let part = c.in-Some.part.now in
+    let wanted = c.in-Some.wanted.now in
+    let j = c.bytes.j in
+    let here : j < length part = c.bytes-test.true in
+    let there : j < length wanted = omega (arith, c.bytes.invariant.long, length-drop j part, length-drop j wanted) in
+    rw add-one (pair_more c.args.cells.now c.args.first c.args.n c.args.key.now (drop j part) (drop j wanted) (drop (suc j) part) (drop (suc j) wanted) (get_or part j 0) (get_or wanted j 0)
+    (zip_first c.next.new.self) (chunks_rest (zip_second c.next.new.self)) (drop-cons part j 0 here) (drop-cons wanted j 0 there) c.if-part-j.false c.bytes.invariant)
 
 pub returns : goal.returns
 returns c = record {
