@@ -50,6 +50,14 @@ pub fn is_utf8(bytes: &[u8]) -> bool
 pub fn encode_utf8(code: u32, out: &mut [u8], start: usize) -> Option<usize>
     ensures { Written code start out.old result out.new }
 {
+    // Most characters are ASCII: through the library's encoding they take a third longer.
+    if code < 0x80 {
+        if start >= out.len() {
+            return None;
+        }
+        out[start] = code as u8;
+        return Some(start + 1);
+    }
     // By a buffer and a test: the contracts of `char::encode_utf8` and `get_mut` do not say what their slice then holds.
     let mut buffer = [0; 4];
     let bytes = char::from_u32(code)?.encode_utf8(&mut buffer).as_bytes();
