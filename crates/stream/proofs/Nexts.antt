@@ -1,6 +1,6 @@
 -- Answers of a source: what to show of one that has room in its scratch.
 use Rattle.std.proofs.Common.{◌≡◌, ℕ, ◌≤◌, List, ◌++◌, length, take, Some, Ok, sym, refl, ap, ◌∙◌, arith}
-use Rattle.stream.specs.declared.events.EventOf.TheVariants.{StartArray, StartDictionary, EndCollection, Boolean, Data, Integer, Real, String, Uid}
+use Rattle.stream.specs.declared.events.Event.TheVariants.{StartArray, StartDictionary, EndCollection, Boolean, Data, Integer, Real, String, Uid}
 use Rattle.stream.specs.Events.{ScratchEvent, event, text_length_lem}
 use Rattle.stream.specs.Nexts.{Next}
 use Rattle.stream.specs.Scratch.{beyond, behind}

@@ -10,8 +10,7 @@ use lib.Ieee.{nan, inf, fin}
 use Rattle.text.specs.Integers.{value}
 use Rattle.text.proofs.Forms.{one_form_each_lem}
 use Rattle.stream.specs.declared.errors.Error.{Error}
-use Rattle.stream.specs.declared.events.EventOf.{EventOf}
-use Rattle.stream.specs.Events.{ScratchEvent}
+use Rattle.stream.specs.declared.events.Event.{Event}
 use Rattle.stream.specs.declared.kinds.EventKind.{EventKind}
 use Rattle.stream.specs.declared.uid.Uid.{Uid}
 
@@ -61,16 +60,16 @@ equal_float (fin s m x) (fin t n y) = beq s t && (m == n && int_eq x y)
 equal_float _ _ = false
 
 -- events
-abbrev pub equal_event : ScratchEvent → ScratchEvent → Bool
-equal_event (EventOf.StartArray m) (EventOf.StartArray n) = option_eq ◌==◌ m n
-equal_event (EventOf.StartDictionary m) (EventOf.StartDictionary n) = option_eq ◌==◌ m n
-equal_event EventOf.EndCollection EventOf.EndCollection = true
-equal_event (EventOf.Boolean a) (EventOf.Boolean b) = beq a b
-equal_event (EventOf.Data m) (EventOf.Data n) = m == n
-equal_event (EventOf.Integer i) (EventOf.Integer j) = int_eq (value i) (value j)
-equal_event (EventOf.Real x) (EventOf.Real y) = equal_float x y
-equal_event (EventOf.String m) (EventOf.String n) = m == n
-equal_event (EventOf.Uid u) (EventOf.Uid v) = u.value == v.value
+abbrev pub equal_event : Event → Event → Bool
+equal_event (Event.StartArray m) (Event.StartArray n) = option_eq ◌==◌ m n
+equal_event (Event.StartDictionary m) (Event.StartDictionary n) = option_eq ◌==◌ m n
+equal_event Event.EndCollection Event.EndCollection = true
+equal_event (Event.Boolean a) (Event.Boolean b) = beq a b
+equal_event (Event.Data m) (Event.Data n) = m == n
+equal_event (Event.Integer i) (Event.Integer j) = int_eq (value i) (value j)
+equal_event (Event.Real x) (Event.Real y) = equal_float x y
+equal_event (Event.String m) (Event.String n) = m == n
+equal_event (Event.Uid u) (Event.Uid v) = u.value == v.value
 equal_event _ _ = false
 
 -- Each of these tests decides whether its arguments are the same.
@@ -191,30 +190,30 @@ count_only _ _ h = no h
 uid_only : (u v : Uid) → u.value == v.value ≡ true → u ≡ v
 uid_only u v h = ap (λ n. record { value = n }) ((unsigned_Decides u.value v.value).0 h)
 
-event_itself : (x : ScratchEvent) → equal_event x x ≡ true
-event_itself (EventOf.StartArray m) = count_itself m
-event_itself (EventOf.StartDictionary m) = count_itself m
-event_itself EventOf.EndCollection = refl
-event_itself (EventOf.Boolean b) = (booleans_Decides b b).1 refl
-event_itself (EventOf.Data n) = (unsigned_Decides n n).1 refl
-event_itself (EventOf.Integer i) = (signed_Decides (value i) (value i)).1 refl
-event_itself (EventOf.Real x) = float_itself x
-event_itself (EventOf.String n) = (unsigned_Decides n n).1 refl
-event_itself (EventOf.Uid u) = (unsigned_Decides u.value u.value).1 refl
+event_itself : (x : Event) → equal_event x x ≡ true
+event_itself (Event.StartArray m) = count_itself m
+event_itself (Event.StartDictionary m) = count_itself m
+event_itself Event.EndCollection = refl
+event_itself (Event.Boolean b) = (booleans_Decides b b).1 refl
+event_itself (Event.Data n) = (unsigned_Decides n n).1 refl
+event_itself (Event.Integer i) = (signed_Decides (value i) (value i)).1 refl
+event_itself (Event.Real x) = float_itself x
+event_itself (Event.String n) = (unsigned_Decides n n).1 refl
+event_itself (Event.Uid u) = (unsigned_Decides u.value u.value).1 refl
 
-event_only : (x y : ScratchEvent) → equal_event x y ≡ true → x ≡ y
-event_only (EventOf.StartArray m) (EventOf.StartArray n) h = ap EventOf.StartArray (count_only m n h)
-event_only (EventOf.StartDictionary m) (EventOf.StartDictionary n) h = ap EventOf.StartDictionary (count_only m n h)
-event_only EventOf.EndCollection EventOf.EndCollection h = refl
-event_only (EventOf.Boolean a) (EventOf.Boolean b) h = ap EventOf.Boolean ((booleans_Decides a b).0 h)
-event_only (EventOf.Data m) (EventOf.Data n) h = ap EventOf.Data ((unsigned_Decides m n).0 h)
-event_only (EventOf.Integer i) (EventOf.Integer j) h = ap EventOf.Integer (one_form_each_lem.only i j ((signed_Decides (value i) (value j)).0 h))
-event_only (EventOf.Real x) (EventOf.Real y) h = ap EventOf.Real (float_only x y h)
-event_only (EventOf.String m) (EventOf.String n) h = ap EventOf.String ((unsigned_Decides m n).0 h)
-event_only (EventOf.Uid u) (EventOf.Uid v) h = ap EventOf.Uid (uid_only u v h)
+event_only : (x y : Event) → equal_event x y ≡ true → x ≡ y
+event_only (Event.StartArray m) (Event.StartArray n) h = ap Event.StartArray (count_only m n h)
+event_only (Event.StartDictionary m) (Event.StartDictionary n) h = ap Event.StartDictionary (count_only m n h)
+event_only Event.EndCollection Event.EndCollection h = refl
+event_only (Event.Boolean a) (Event.Boolean b) h = ap Event.Boolean ((booleans_Decides a b).0 h)
+event_only (Event.Data m) (Event.Data n) h = ap Event.Data ((unsigned_Decides m n).0 h)
+event_only (Event.Integer i) (Event.Integer j) h = ap Event.Integer (one_form_each_lem.only i j ((signed_Decides (value i) (value j)).0 h))
+event_only (Event.Real x) (Event.Real y) h = ap Event.Real (float_only x y h)
+event_only (Event.String m) (Event.String n) h = ap Event.String ((unsigned_Decides m n).0 h)
+event_only (Event.Uid u) (Event.Uid v) h = ap Event.Uid (uid_only u v h)
 event_only _ _ h = no h
 
-pub event_decides : (x y : ScratchEvent) → Decides (equal_event x y) (x ≡ y)
+pub event_decides : (x y : Event) → Decides (equal_event x y) (x ≡ y)
 event_decides x y = by equal_event event_itself x y (event_only x y)
 
 pub event_laws : IsEquivalence equal_event

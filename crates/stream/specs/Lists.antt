@@ -1,15 +1,25 @@
 -- What a source over a list of events means.
-use Rattle.std.specs.Prelude.{◌≡◌, ℕ, ◌+◌, min, cond, List, [], ◌∷◌, map, length, take, Some, None, Err, Option, Result, nat_le, ⊤}
-use Rattle.text.specs.Integers.{value}
+use Rattle.std.specs.Prelude.{◌≡◌, ℕ, ◌+◌, min, cond, List, [], ◌∷◌, map, length, take, pos, Some, None, Err, Option, Result, nat_le, ⊤}
 use Rattle.text.specs.Utf8.{utf8}
 use Rattle.stream.specs.declared.errors.Error.{Error}
 use Rattle.stream.specs.declared.lists.EventList.{EventList}
-use Rattle.stream.specs.Events.{ScratchEvent, LentEvent, event, meant, text_length_lem}
+use Rattle.stream.specs.declared.lists.ListedEvent.{ListedEvent}
+use Rattle.stream.specs.declared.lists.ListedEvent.TheVariants.{StartArray, StartDictionary, EndCollection, Boolean, Data, Signed, Unsigned, Real, String, Uid}
+use Rattle.stream.specs.Events.{ScratchEvent, event, text_length_lem}
 use Rattle.stream.specs.Streams.{Ev, Stream, over, first}
 
 -- the event that stands in the list
-abbrev pub listed : LentEvent → Ev
-listed e = meant (λ t. t.now) value e
+abbrev pub listed : ListedEvent → Ev
+listed (StartArray n) = Ev.StartArray n
+listed (StartDictionary n) = Ev.StartDictionary n
+listed EndCollection = Ev.EndCollection
+listed (Boolean b) = Ev.Boolean b
+listed (Data t) = Ev.Data t.now
+listed (Signed i) = Ev.Integer i
+listed (Unsigned n) = Ev.Integer (pos n)
+listed (Real x) = Ev.Real x
+listed (String t) = Ev.String t.now
+listed (Uid u) = Ev.Uid u.value
 
 -- its text, if it has one
 abbrev pub text_of : Ev → List ℕ

@@ -1,6 +1,6 @@
 // The events that spell a property list, one after another.
 ghost use Rattle.std.specs.Prelude.{◌≡◌, Decides};
-ghost use Rattle.stream.specs.Events.{kind_of, text_in, text_length_lem};
+ghost use Rattle.stream.specs.Events.{kind_of, text_length_lem};
 ghost use Rattle.std.specs.Cmp.{partial_equiv_from_equiv};
 ghost use Rattle.stream.specs.Equals.{equal_event, event_laws};
 
@@ -8,59 +8,45 @@ use crate::kinds::EventKind;
 use crate::uid::Uid;
 use text::integer::Integer;
 
-// A Data or a String carries a text, or what stands for one.
-// What an Integer carries is a parameter too, since only so may a type with an invariant stand in an enum beside a reference.
+// A Data or a String carries the length of its text, whose bytes stand at the front of the scratch.
 #[derive(Clone, Copy, Debug)]
-pub enum EventOf<Text, Number> {
+pub enum Event {
     StartArray(Option<u64>),
     StartDictionary(Option<u64>),
     EndCollection,
     Boolean(bool),
-    Data(Text),
-    Integer(Number),
+    Data(usize),
+    Integer(Integer),
     Real(f64),
-    String(Text),
+    String(usize),
     Uid(Uid),
 }
 
-// A Data or a String carries the length of its text, whose bytes stand at the front of the scratch.
-// (No default parameters: of an event that is made for itself alone, they would not say which type it is.)
-pub type Event = EventOf<usize, Integer>;
-
-impl<Text: Copy, Number: Copy> EventOf<Text, Number> {
+impl Event {
     pub fn kind(self) -> EventKind
         ensures { result ≡ kind_of self }
     {
         match self {
-            EventOf::StartArray(_) => EventKind::StartArray,
-            EventOf::StartDictionary(_) => EventKind::StartDictionary,
-            EventOf::EndCollection => EventKind::EndCollection,
-            EventOf::Boolean(_) => EventKind::Boolean,
-            EventOf::Data(_) => EventKind::Data,
-            EventOf::Integer(_) => EventKind::Integer,
-            EventOf::Real(_) => EventKind::Real,
-            EventOf::String(_) => EventKind::String,
-            EventOf::Uid(_) => EventKind::Uid,
+            Event::StartArray(_) => EventKind::StartArray,
+            Event::StartDictionary(_) => EventKind::StartDictionary,
+            Event::EndCollection => EventKind::EndCollection,
+            Event::Boolean(_) => EventKind::Boolean,
+            Event::Data(_) => EventKind::Data,
+            Event::Integer(_) => EventKind::Integer,
+            Event::Real(_) => EventKind::Real,
+            Event::String(_) => EventKind::String,
+            Event::Uid(_) => EventKind::Uid,
         }
     }
 
-    // Its text, or what stands for one, if it has any.
-    pub(crate) fn text(self) -> Option<Text>
-        ensures { result ≡ text_in self }
-    {
-        match self {
-            EventOf::Data(text) | EventOf::String(text) => Some(text),
-            _ => None,
-        }
-    }
-}
-
-impl Event {
     // How many bytes at the front of the scratch are the event's text.
     pub fn text_length(self) -> usize
         ensures { result ≡ text_length_lem self }
     {
-        self.text().unwrap_or(0)
+        match self {
+            Event::Data(n) | Event::String(n) => n,
+            _ => 0,
+        }
     }
 }
 

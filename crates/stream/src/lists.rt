@@ -5,21 +5,38 @@ ghost use Rattle.stream.specs.Lists.{listed, StandsFor, text_of, unfit, fit_part
 ghost use Rattle.stream.specs.Streams.{EachFit, stream};
 
 use crate::errors::Error;
-use crate::events::{Event, EventOf};
+use crate::events::Event;
 use crate::scratch::{TEXT_BYTES, clear, put_text};
 use crate::sources::{Ending, EventSource};
+use crate::uid::Uid;
 use text::integer::Integer;
 use text::utf8::is_utf8;
 
-// An event that lends its text.
-pub type ListedEvent<'a> = EventOf<&'a [u8], Integer>;
+// An event whose text is borrowed. Signed and Unsigned both stand for an Integer. (An enum of its own: were it `Event` with another parameter, an event made
+// for itself alone would not say which of the two it is, and no variant of either alias could be imported.)
+#[derive(Clone, Copy, Debug)]
+pub enum ListedEvent<'a> {
+    StartArray(Option<u64>),
+    StartDictionary(Option<u64>),
+    EndCollection,
+    Boolean(bool),
+    Data(&'a [u8]),
+    Signed(i64),
+    Unsigned(u64),
+    Real(f64),
+    String(&'a [u8]),
+    Uid(Uid),
+}
 
 impl<'a> ListedEvent<'a> {
     // Its text, or no byte where it has none.
-    fn lent_text(self) -> &'a [u8]
+    fn text(self) -> &'a [u8]
         ensures { result.now ≡ text_of (listed self.entry) }
     {
-        self.text().unwrap_or(&[])
+        match self {
+            ListedEvent::Data(text) | ListedEvent::String(text) => text,
+            _ => &[],
+        }
     }
 
     // Why it is not given, if so many events stand before it.
@@ -37,7 +54,7 @@ impl<'a> ListedEvent<'a> {
         }
     }
 
-    // The event that is given, its text standing in the scratch. Each case is built anew, since its type is another.
+    // The event that is given, its text standing in the scratch.
     fn event(self) -> Event
         ensures { StandsFor result (listed self.entry) }
     {
@@ -47,7 +64,8 @@ impl<'a> ListedEvent<'a> {
             ListedEvent::EndCollection => Event::EndCollection,
             ListedEvent::Boolean(value) => Event::Boolean(value),
             ListedEvent::Data(text) => Event::Data(text.len()),
-            ListedEvent::Integer(value) => Event::Integer(value),
+            ListedEvent::Signed(value) => Event::Integer(Integer::from(value)),
+            ListedEvent::Unsigned(value) => Event::Integer(Integer::from(value)),
             ListedEvent::Real(value) => Event::Real(value),
             ListedEvent::String(text) => Event::String(text.len()),
             ListedEvent::Uid(value) => Event::Uid(value),
@@ -95,7 +113,7 @@ impl EventSource for EventList<'_> {
             clear(scratch, 0);
             return Err(error);
         }
-        put_text(scratch, first.lent_text());
+        put_text(scratch, first.text());
         self.events = rest;
         self.given = self.given.saturating_add(1);
         Ok(Some(first.event()))

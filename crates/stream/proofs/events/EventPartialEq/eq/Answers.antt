@@ -2,7 +2,7 @@ use Rattle.std.proofs.Common.{◌≡◌, sym, ◌∙◌, rules}
 use Rattle.std.specs.Ordering.{int_eq}
 use Rattle.text.specs.Integers.{value}
 use Rattle.stream.specs.Equals.{event_decides}
-use Rattle.stream.specs.declared.events.EventOf.TheVariants.{Integer}
+use Rattle.stream.specs.declared.events.Event.TheVariants.{Integer}
 use Rattle.stream.proofs.events.EventPartialEq.eq.Goals as goal
 
 pub returns-in-Integer-Integer-clause-same : goal.returns-in-Integer-Integer-clause-same
